@@ -1,0 +1,6 @@
+pub mod Colours
+pub mod Limits
+pub mod Lodge
+pub mod Opening
+pub mod Outcomes
+pub mod Parties
