@@ -1,4 +1,71 @@
 // What the house may choose to draw letters by: of two letters, which one is claimed on before the other.
-pub mod facts;
-pub mod order;
-pub mod orders;
+ghost use Rattle.std.specs.Prelude.{◌≡◌, ℕ, Bool, MatchOption, ◌≢◌};
+ghost use Rattle.draw_order.specs.Kinds.{kind_code};
+ghost use Rattle.draw_order.specs.Orders.{Order, ExactlyOneFirst, CarriesOver, earlier_last_day};
+ghost use Rattle.draw_order.specs.declared.LetterKind.{LetterKind};
+ghost use Rattle.std.proofs.Common.{rules};
+
+#[derive(Clone, Copy)]
+pub enum LetterKind {
+    // A bank letter for a single claim.
+    BankSingle = 1,
+    // A bank letter claimed in parts.
+    BankInParts = 2,
+    // An insurance policy claimed in parts.
+    InsuranceInParts = 3,
+}
+
+impl LetterKind {
+    pub fn from_code(code: u8) -> Option<LetterKind>
+        ensures { MatchOption result ((kind : LetterKind) → kind_code kind ≢ code) (λ kind. kind_code kind ≡ code) }
+    {
+        match code {
+            1 => Some(LetterKind::BankSingle),
+            2 => Some(LetterKind::BankInParts),
+            3 => Some(LetterKind::InsuranceInParts),
+            _ => None,
+        }
+    }
+}
+
+// All that an order may look at in a letter.
+#[derive(Clone, Copy)]
+pub struct LetterFacts {
+    pub number: u16,
+    pub kind: LetterKind,
+    pub first_day: u16,
+    pub last_day: u16,
+    pub held: u32,
+}
+
+pub trait DrawOrder {
+    // The order's meaning: a fixed relation between the facts of two letters.
+    ghost before: { Self → Order };
+
+    fn goes_before(&self, one: &LetterFacts, other: &LetterFacts) -> bool
+        ensures { result ≡ before self.now one.now other.now };
+
+    ghost one_first: { (order : Self) → ExactlyOneFirst (before order) };
+
+    ghost carries: { (order : Self) → CarriesOver (before order) };
+}
+
+// The letter that ends first goes first, and of two that end on one day the one with the lower number.
+#[derive(Clone, Copy)]
+pub struct EarliestLastDay;
+
+impl DrawOrder for EarliestLastDay {
+    ghost before = { λ _. earlier_last_day };
+
+    ghost one_first = { Prim.search rules };
+
+    ghost carries = { Prim.search rules };
+
+    fn goes_before(&self, one: &LetterFacts, other: &LetterFacts) -> bool {
+        if one.last_day == other.last_day {
+            one.number < other.number
+        } else {
+            one.last_day < other.last_day
+        }
+    }
+}

@@ -1,6 +1,6 @@
 -- The rows of the table of letters, and what the rules read off them.
 use Rattle.std.specs.Prelude.{ℕ, ◌+◌, Bool, true, false, cond, not, ◌&&◌, ◌||◌, List, [], ◌∷◌, sum_by, ◌==◌, nat_le, slice_index_or}
-use Rattle.draw_order.specs.declared.facts.LetterKind.TheVariants.{BankSingle}
+use Rattle.draw_order.specs.declared.LetterKind.TheVariants.{BankSingle}
 use Rattle.tables.specs.Rows.{first_place, some_row}
 use Rattle.letters.specs.declared.letter.Letter.{Letter}
 use Rattle.letters.specs.declared.letter.Standing.{Standing}
@@ -12,14 +12,6 @@ booked row = elim row.standing [ Free ↦ false | In ↦ true | Out demanded ↦
 
 abbrev pub free : Letter → Bool
 free row = not (booked row)
-
--- The letter's original is in the strongroom.
-abbrev pub original_in : Letter → Bool
-original_in row = elim row.standing [ Free ↦ false | In ↦ true | Out demanded ↦ false | Ended ↦ false ]
-
--- It is with the issuer, who was asked for a sum.
-abbrev pub original_out : Letter → Bool
-original_out row = elim row.standing [ Free ↦ false | In ↦ false | Out demanded ↦ true | Ended ↦ false ]
 
 -- What a free row holds: nothing.
 abbrev pub no_letter : Letter
@@ -55,11 +47,6 @@ has_letter number rows = some_row (numbered number) rows
 
 abbrev pub letter_row : ℕ → List Letter → Letter
 letter_row number rows = slice_index_or rows (first_place (numbered number) rows) no_letter
-
--- No two letters of the table have one number.
-abbrev pub distinct_numbers : List Letter → Bool
-distinct_numbers [] = true
-distinct_numbers (row ∷ rows) = (free row || not (has_letter row.number rows)) && distinct_numbers rows
 
 -- The letter's days include this day.
 abbrev pub includes : ℕ → Letter → Bool

@@ -1,5 +1,4 @@
 // The letters of a book: what a row of their table holds, the sums of a letter, and the table.
-mod ending;
 pub mod letter;
 pub mod sums;
 pub mod table;

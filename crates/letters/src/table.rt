@@ -4,11 +4,8 @@ ghost use Rattle.tables.specs.Rows.{FindsFirst};
 ghost use Rattle.letters.specs.Letters.{booked, numbered, includes, free, held_total, held_on, followed_by, starts_in_time, no_letter};
 
 use crate::letter::{Letter, Standing};
-use draw_order::facts::LetterKind;
+use draw_order::LetterKind;
 use tables::{RowAmount, RowTest, first_place, total};
-
-mod choosing;
-mod days;
 
 pub const PLACES: usize = 24;
 
@@ -95,12 +92,6 @@ impl LetterTable {
         LetterTable {
             rows: [Letter::NONE; PLACES],
         }
-    }
-
-    pub fn from_rows(rows: [Letter; PLACES]) -> LetterTable
-        ensures { result.rows ≡ rows }
-    {
-        LetterTable { rows }
     }
 
     // Where the letter with this number stands.

@@ -1,4 +1,1 @@
-pub mod Grades
-pub mod Guangxi
 pub mod Policies
-pub mod Table

@@ -4,13 +4,13 @@ use Rattle.refusals.specs.Conditions.{◌gives◌, first_given}
 use Rattle.std.proofs.lemmas.List.{drop-drop, drop-take, take-take}
 use Rattle.std.proofs.lemmas.Bool.{le-ltb}
 use Rattle.records.proofs.Reading.{has_bytes}
-use Rattle.fields.specs.Fields.{big_endian, field_length, stands, twos_complement, width_of}
+use Rattle.records.specs.Fields.{big_endian, field_length, stands, width_of}
 use Rattle.records.specs.Kinds.{kind_of}
 use Rattle.records.specs.Records.{OwnBytesDecide, ahead, body_length, field_value, fields_in, fields_length, has_map, record_length, record_of}
 use Rattle.records.specs.declared.fault.RecordFault.{RecordFault}
 use Rattle.records.specs.declared.fault.RecordFault.TheVariants.{Cut, UnknownKind, WrongMap}
-use Rattle.fields.specs.declared.field.FieldName.{FieldName}
-use Rattle.fields.specs.declared.field.FieldName.TheVariants.{Party, Number, Code, Sum, Day, LastDay, Month, Payee, SignedSum, Kind as KindByte}
+use Rattle.records.specs.declared.field.FieldName.{FieldName}
+use Rattle.records.specs.declared.field.FieldName.TheVariants.{Party, Number, Code, Sum, Day, LastDay, Month, Kind as KindByte}
 use Rattle.records.specs.declared.kind.Kind.{Kind}
 use Rattle.records.specs.declared.kind.Kind.TheVariants.{Opening}
 
@@ -43,8 +43,6 @@ module _ (n : ℕ) (xs ys : List ℕ) (same : take n xs ≡ take n ys) where
     day = field_alike map Day (omega arith) i;
     last_day = field_alike map LastDay (omega arith) i;
     month = field_alike map Month (omega arith) i;
-    payee = field_alike map Payee (omega arith) i;
-    signed_sum = twos_complement (field_alike map SignedSum (omega arith) i);
   }
 
 -- the faults of a record by what they look at

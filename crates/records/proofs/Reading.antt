@@ -5,12 +5,12 @@ use Rattle.refusals.specs.Conditions.{◌gives◌, first_given, FirstDecides}
 use Rattle.std.proofs.lemmas.List.{drop-drop}
 use Rattle.std.proofs.lemmas.Result.{MatchResult-weaker}
 use Rattle.std.proofs.lemmas.Bool.{cond-false, eq-eqb, le-ltb, ltb-false}
-use Rattle.fields.specs.Fields.{big_endian, stands}
+use Rattle.records.specs.Fields.{big_endian, stands}
 use Rattle.records.specs.Kinds.{kind_map, kind_of}
 use Rattle.records.specs.Records.{body_faults, body_in, body_length, fields_in, fields_length, has_map, record_faults, record_in, record_length, record_of}
 use Rattle.records.specs.declared.fault.RecordFault.{RecordFault}
 use Rattle.records.specs.declared.fault.RecordFault.TheVariants.{Cut, UnknownKind, WrongMap}
-use Rattle.fields.specs.declared.field.FieldName.TheVariants.{Kind as KindByte}
+use Rattle.records.specs.declared.field.FieldName.TheVariants.{Kind as KindByte}
 use Rattle.records.specs.declared.kind.Kind.{Kind}
 use Rattle.records.specs.declared.kind.Kind.TheVariants.{Opening}
 use Rattle.records.specs.declared.record.Record.{Record}

@@ -1,3 +1,2 @@
-pub mod Carrying
 pub mod Deciding
 pub mod Joining

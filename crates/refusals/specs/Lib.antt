@@ -1,3 +1,2 @@
 pub mod Conditions
-pub mod Ranges
 pub mod Refusals

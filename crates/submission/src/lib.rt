@@ -6,10 +6,9 @@ ghost use Rattle.submission.specs.Submitted.{Submitted};
 use batch::answer::Answer;
 use batch::fault::BatchFault;
 use batch::run::run_batch;
-use draw_order::orders::EarliestLastDay;
+use draw_order::EarliestLastDay;
 use ledger::book::Book;
-use rating::guangxi::GuangxiTable;
-use rating::layers::ArrearsLayer;
+use rating::FlatZero;
 
 // A batch has at most so many bytes.
 pub const MOST_BYTES: usize = 16_384;
@@ -23,10 +22,7 @@ pub fn submit(batch: &[u8], book: &mut Book, answers: &mut [Answer]) -> Result<u
     if batch.len() > MOST_BYTES {
         return Err(BatchFault::TooLong);
     }
-    let rating = ArrearsLayer {
-        below: GuangxiTable,
-    };
-    run_batch(batch, book, answers, &rating, &EarliestLastDay)
+    run_batch(batch, book, answers, &FlatZero, &EarliestLastDay)
 }
 
 // How many records were answered: all, or those before the fault.

@@ -1,2 +1,0 @@
-// The fields of which the records of a batch are made.
-pub mod field;

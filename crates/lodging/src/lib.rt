@@ -1,3 +1,0 @@
-// How a letter is lodged: what a party hands in, when it is refused, and what it does to the table of letters.
-pub mod lodge;
-pub mod terms;

@@ -1,3 +1,0 @@
-pub mod Accounts
-pub mod Kinds
-pub mod Postings

@@ -1,4 +1,0 @@
-// What the months of a book were billed and paid, and how much of it is outstanding.
-pub mod account;
-pub mod table;
-pub mod terms;

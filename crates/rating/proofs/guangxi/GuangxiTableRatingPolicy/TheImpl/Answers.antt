@@ -1,4 +1,0 @@
-use Rattle.rating.proofs.guangxi.GuangxiTableRatingPolicy.TheImpl.Goals as goal
-
-pub rate-tells : goal.rate-tells
-rate-tells c = c.ensures.marked-or-not c.args.arrears
