@@ -21,7 +21,7 @@ fn post_record<R: RatingPolicy, O: DrawOrder>(
     rating: &R,
     order: &O,
 ) -> Result<Answer, RecordFault>
-    ensures fault { MatchResult result (λ answer. (first_given (turn_faults number book.old.figures «record») ≡ None) × (answer ≡ answer_to (coefficient rating.now) number book.old.figures «record»)) (λ fault. first_given (turn_faults number book.old.figures «record») ≡ Some fault) }
+    ensures fault { MatchResult result (λ answer. (first_given (turn_faults number book.old.figures «record») ≡ None) × (answer ≡ answer_to (R.coefficient rating.now) number book.old.figures «record»)) (λ fault. first_given (turn_faults number book.old.figures «record») ≡ Some fault) }
     ensures after { MatchResult result (λ _. book.new.figures ≡ book_after_record book.old.figures «record») (λ _. book.new.figures ≡ book.old.figures) }
 {
     let result = match record.entry {
@@ -59,7 +59,7 @@ pub fn run_batch<R: RatingPolicy, O: DrawOrder>(
     rating: &R,
     order: &O,
 ) -> Result<usize, BatchFault>
-    ensures { Ran (coefficient rating.now) (before order.now) batch.now answers.old book.old.figures result answers.new book.new.figures }
+    ensures { Ran (R.coefficient rating.now) (O.before order.now) batch.now answers.old book.old.figures result answers.new book.new.figures }
 {
     let mut rest = batch;
     let mut count = 0;
@@ -97,7 +97,7 @@ fn take_record<'a, R: RatingPolicy, O: DrawOrder>(
     rating: &R,
     order: &O,
 ) -> Result<(Answer, &'a [u8]), RecordFault>
-    ensures fault { MatchResult result (λ p. (first_given (faults number book.old.figures part.now) ≡ None) × (p.0 ≡ answer_to (coefficient rating.now) number book.old.figures (record_in part.now)) × (p.1.now ≡ drop (record_length part.now) part.now)) (λ fault. first_given (faults number book.old.figures part.now) ≡ Some fault) }
+    ensures fault { MatchResult result (λ p. (first_given (faults number book.old.figures part.now) ≡ None) × (p.0 ≡ answer_to (R.coefficient rating.now) number book.old.figures (record_in part.now)) × (p.1.now ≡ drop (record_length part.now) part.now)) (λ fault. first_given (faults number book.old.figures part.now) ≡ Some fault) }
     ensures after { MatchResult result (λ _. book.new.figures ≡ book_after_record book.old.figures (record_in part.now)) (λ _. book.new.figures ≡ book.old.figures) }
 {
     let (record, behind) = read_record(part)?;

@@ -1,4 +1,6 @@
 // What the house may choose to draw letters by: of two letters, which one is claimed on before the other.
+#![tactic(auto)]
+
 ghost use Rattle.std.specs.Prelude.{◌≡◌, ℕ, Bool, MatchOption, ◌≢◌};
 ghost use Rattle.draw_order.specs.Kinds.{kind_code};
 ghost use Rattle.draw_order.specs.Orders.{Order, ExactlyOneFirst, CarriesOver, earlier_last_day};

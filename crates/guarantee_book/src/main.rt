@@ -1,4 +1,6 @@
 // Reads a batch from standard input, runs it on a new book, and prints an answer a line and the fault, if there is one.
+#![tactic(auto)]
+
 use batch::answer::Answer;
 use ledger::book::Book;
 use std::io;

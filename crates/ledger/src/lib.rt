@@ -1,4 +1,6 @@
 // The book of one retailer: its figures, the opening and the postings.
+#![tactic(auto)]
+
 pub mod book;
 pub mod colour;
 pub mod figures;

@@ -1,4 +1,6 @@
 // The letters of a book: what a row of their table holds, the sums of a letter, and the table.
+#![tactic(auto)]
+
 pub mod letter;
 pub mod sums;
 pub mod table;

@@ -116,7 +116,7 @@ impl LetterTable {
     }
 
     fn first<Q: RowTest<Letter>>(&self, question: &Q) -> Option<Place>
-        ensures { FindsFirst (passes question.now) self.now.rows (λ p. p.index) result }
+        ensures { FindsFirst (Q.passes question.now) self.now.rows (λ p. p.index) result }
     {
         match first_place(&self.rows, question) {
             Some(index) => Some(Place { index }),

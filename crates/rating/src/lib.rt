@@ -1,5 +1,7 @@
 // What the house may choose to rate a retailer by: from its latest grades and its arrears mark a coefficient, in
 // hundredths, which scales the part of its limit that needs no letter.
+#![tactic(auto)]
+
 ghost use Rattle.std.specs.Prelude.{Bool, ◌≡◌, ℤ, pos, negsuc, ◌≤ℤ◌};
 ghost use Rattle.rating.specs.Policies.{Coefficient, InRange, flat_zero};
 ghost use Rattle.rating.specs.declared.Grades.{Grades};

@@ -102,7 +102,7 @@ impl FieldName {
 
     // The field, if its bit stands in the map.
     pub fn take<F: Field>(self, map: u16, part: &[u8]) -> Result<(F, &[u8]), FieldFault>
-        ensures { MatchResult result (λ p. ((if stands map self then width else 0) ≤ length part.now) × (p.0 ≡ (if stands map self then reads part.now else absent)) × (p.1.now ≡ drop (if stands map self then width else 0) part.now)) (λ _. length part.now < (if stands map self then width else 0)) }
+        ensures { MatchResult result (λ p. ((if stands map self then F.width else 0) ≤ length part.now) × (p.0 ≡ (if stands map self then F.reads part.now else F.absent)) × (p.1.now ≡ drop (if stands map self then F.width else 0) part.now)) (λ _. length part.now < (if stands map self then F.width else 0)) }
     {
         if self.stands_in(map) {
             F::take(part)

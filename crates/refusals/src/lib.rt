@@ -1,4 +1,6 @@
 // Why something is refused. A reason has the same number wherever it is given.
+#![tactic(auto)]
+
 ghost use Rattle.std.specs.Prelude.{◌≡◌};
 ghost use Rattle.refusals.specs.Refusals.{refusal_number};
 

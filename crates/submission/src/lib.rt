@@ -1,4 +1,6 @@
 // How the house runs a batch that is handed in: with its rating policy and its draw order, and up to so many bytes.
+#![tactic(auto)]
+
 ghost use Rattle.std.specs.Prelude.{◌≡◌};
 ghost use Rattle.batch.specs.Runs.{answered_in};
 ghost use Rattle.submission.specs.Submitted.{Submitted};

@@ -1,4 +1,6 @@
 // Walks over the rows of a table: the first row that passes a test, and the total of what the rows add.
+#![tactic(auto)]
+
 ghost use Rattle.std.specs.Prelude.{◌≡◌, ℕ, ◌<◌, Bool, length, IfSome, sum_by};
 ghost use Rattle.tables.specs.Rows.{FindsFirst};
 
@@ -19,7 +21,7 @@ pub trait RowAmount<Row> {
 }
 
 pub fn first_place<Row, Q: RowTest<Row>>(rows: &[Row], question: &Q) -> Option<usize>
-    ensures first { FindsFirst (passes question.now) rows.now (λ i. i) result }
+    ensures first { FindsFirst (Q.passes question.now) rows.now (λ i. i) result }
     ensures within { IfSome result (λ i. i < length rows.now) }
 {
     for (index, row) in rows.iter().enumerate() {
@@ -32,7 +34,7 @@ pub fn first_place<Row, Q: RowTest<Row>>(rows: &[Row], question: &Q) -> Option<u
 
 // However many rows there are, 128 bits hold the total.
 pub fn total<Row, A: RowAmount<Row>>(rows: &[Row], measure: &A) -> u128
-    ensures { result ≡ sum_by (adds measure.now) rows.now }
+    ensures { result ≡ sum_by (A.adds measure.now) rows.now }
 {
     let mut sum: u128 = 0;
     for row in rows {

@@ -12,7 +12,7 @@ use rating::RatingPolicy;
 impl Book {
     // The credit part, which the rating policy scales, and the held sums of the letters whose days include today.
     pub fn limit<R: RatingPolicy>(&self, rating: &R) -> i64
-        ensures { result ≡ limit (coefficient rating.now) self.now.figures }
+        ensures { result ≡ limit (R.coefficient rating.now) self.now.figures }
     {
         let credit = credit_part(self.figures.usage, rating.rate(&self.figures.grades, false));
         credit + self.figures.letters.held_on(self.figures.today) as i64
@@ -38,7 +38,7 @@ impl Book {
     }
 
     pub fn colour<R: RatingPolicy>(&self, rating: &R) -> Colour
-        ensures { result ≡ colour (coefficient rating.now) self.now.figures }
+        ensures { result ≡ colour (R.coefficient rating.now) self.now.figures }
     {
         Colour::of(self.limit(rating), self.exposure())
     }

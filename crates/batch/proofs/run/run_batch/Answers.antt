@@ -20,24 +20,24 @@ number_of is = ap (λ (p : Position). p.number) is
 pub loop-place-init : goal.loop-place-init
 loop-place-init g c = (refl, begins _ _ _ _ _)
 
-pub returns-then-is-empty : goal.returns-then-is-empty
-returns-then-is-empty g c = leaves _ _ c.args.answers.now c.args.batch.now c.args.book.now.figures (at_end c.loop-place.invariant.1 (sym c.is-empty.ensures ∙ c.if-is-empty.true)) (ap Ok c.loop-place.invariant.0) (set-get_or _ _ _) refl
+pub returns-then-is_empty : goal.returns-then-is_empty
+returns-then-is_empty g c = leaves _ _ c.args.answers.now c.args.batch.now c.args.book.now.figures (at_end c.loop-place.invariant.1 (sym c.is_empty.ensures ∙ c.if-is_empty.true)) (ap Ok c.loop-place.invariant.0) (set-get_or _ _ _) refl
 
-pub returns-in-err-answer : goal.returns-in-err-answer
-returns-in-err-answer g c =
+pub returns-in_err-answer : goal.returns-in_err-answer
+returns-in_err-answer g c =
     let rest = c.loop-place.rest.now in
     let f = c.loop-place.book.figures in
     let offset = length c.args.batch.now - length rest in
-    let more = sym c.is-empty.ensures ∙ c.if-is-empty.false in
+    let more = sym c.is_empty.ensures ∙ c.if-is_empty.false in
     let here = at_count offset c.position-here.ensures c.loop-place.invariant.0 in
-    let at = located_err c.position-here.result c.take-record.result (sym c.locate.ensures ∙ c.in-err-answer.was) in
-    let fault = MatchResult-at_err _ _ _ at.1 c.take-record.ensures.fault in
-    let p = err_from_is_err_and c.from-residual.result c.from-residual.ensures.1 in
+    let at = located_err c.position-here.result c.take_record.result (sym c.locate.ensures ∙ c.in_err-answer.was) in
+    let fault = MatchResult-at_err _ _ _ at.1 c.take_record.ensures.fault in
+    let p = err_from_is_err_and c.from_residual.result c.from_residual.ensures.1 in
     leaves _ _ c.args.answers.now c.args.batch.now c.args.book.now.figures
     (at_fault c.loop-place.invariant.1 (omega arith) more (ap (λ n. first_given (faults n f rest)) (sym (number_of here)) ∙ fault))
     (p.1 ∙ ap Err (p.2 ∙ ap AtRecord (at.2 ∙ ap (λ position. record { position = position; fault = at.0 }) here)))
     (set-get_or _ _ _)
-    (MatchResult-at_err _ _ _ at.1 c.take-record.ensures.after)
+    (MatchResult-at_err _ _ _ at.1 c.take_record.ensures.after)
 
 pub loop-place-preserved : goal.loop-place-preserved
 loop-place-preserved g c =
@@ -46,23 +46,23 @@ loop-place-preserved g c =
     let offset = length c.args.batch.now - length rest in
     let count = c.loop-place.invariant.0 in
     let policy = g.R.RatingPolicy.coefficient c.args.rating.now in
-    let more = sym c.is-empty.ensures ∙ c.if-is-empty.false in
+    let more = sym c.is_empty.ensures ∙ c.if-is_empty.false in
     let number = number_of (at_count offset c.position-here.ensures count) in
-    let ok = located_ok c.position-here.result c.take-record.result (sym c.locate.ensures ∙ c.in-ok-answer.was) in
-    let taken = MatchResult-at_ok _ _ _ ok c.take-record.ensures.fault in (
+    let ok = located_ok c.position-here.result c.take_record.result (sym c.locate.ensures ∙ c.in_ok-answer.was) in
+    let taken = MatchResult-at_ok _ _ _ ok c.take_record.ensures.fault in (
       ap (λ n. n + 1) count,
       one_more c.loop-place.invariant.1 (omega arith) more (ap (λ n. first_given (faults n f rest)) (sym number) ∙ taken.0)
           (taken.1 ∙ ap (λ n. answer_to policy n f (record_in rest)) number)
           taken.2
-          (MatchResult-at_ok _ _ _ ok c.take-record.ensures.after),
+          (MatchResult-at_ok _ _ _ ok c.take_record.ensures.after),
     )
 
-pub returns-in-err-locate : goal.returns-in-err-locate
-returns-in-err-locate g c =
+pub returns-in_err-locate : goal.returns-in_err-locate
+returns-in_err-locate g c =
     let here = at_count (length c.args.batch.now - length c.loop-place.rest.now) c.position-here-2.ensures c.loop-place.invariant.0 in
-    let at = located_err c.position-here-2.result c.no-more.result (sym c.locate-2.ensures ∙ c.in-err-locate.was) in
-    let p = err_from_is_err_and c.from-residual-in-err-locate.result c.from-residual-in-err-locate.ensures.1 in
-    let left = MatchResult-at_err _ _ _ at.1 c.no-more.ensures in
+    let at = located_err c.position-here-2.result c.no_more.result (sym c.locate-2.ensures ∙ c.in_err-locate.was) in
+    let p = err_from_is_err_and c.from_residual-in_err-locate.result c.from_residual-in_err-locate.ensures.1 in
+    let left = MatchResult-at_err _ _ _ at.1 c.no_more.ensures in
     leaves _ _ c.args.answers.now c.args.batch.now c.args.book.now.figures (at_full c.loop-place.invariant.1 (omega arith) left.0)
     (p.1 ∙ ap Err (p.2 ∙ ap AtRecord (at.2 ∙ (λ i. record { position = here i; fault = left.1 i }))))
     refl
@@ -70,7 +70,7 @@ returns-in-err-locate g c =
 
 pub returns : goal.returns
 returns g c =
-    let ok = located_ok c.position-here-2.result c.no-more.result (sym c.locate-2.ensures ∙ c.in-ok-locate.was) in
-    leaves _ _ c.args.answers.now c.args.batch.now c.args.book.now.figures (at_end c.loop-place.invariant.1 (MatchResult-at_ok _ _ _ ok c.no-more.ensures)) (ap Ok c.loop-place.invariant.0)
+    let ok = located_ok c.position-here-2.result c.no_more.result (sym c.locate-2.ensures ∙ c.in_ok-locate.was) in
+    leaves _ _ c.args.answers.now c.args.batch.now c.args.book.now.figures (at_end c.loop-place.invariant.1 (MatchResult-at_ok _ _ _ ok c.no_more.ensures)) (ap Ok c.loop-place.invariant.0)
     refl
     refl

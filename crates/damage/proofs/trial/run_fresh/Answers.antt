@@ -13,7 +13,7 @@ returns c =
     let batch = c.args.batch.now in
     let answered = c.answered.ensures in
     let fault = c.err.ensures.value in
-    let held = c.held-by.ensures in
+    let held = c.held_by.ensures in
     let new = ap (λ (f : Figures). run flat_zero earlier_last_day (replicate 8 blank) 0 0 batch f) c.new-book.ensures in
     when_weaker (ltb 16384 (length batch))
     (λ long. (answered ∙ ap answered_in long.0, fault ∙ ap result_err long.0, held ∙ ap (letter_holds 7) (long.2 ∙ c.new-book.ensures)))

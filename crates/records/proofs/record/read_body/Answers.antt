@@ -11,9 +11,9 @@ returns c =
     let map = c.args.map in
     let part = c.args.part.now in
     let kind = c.in-Some.kind in
-    let letter = c.in-ok-letter.ensures in
-    let fields = c.in-ok-fields.ensures in
-    let known : kind_of (big_endian 1 part) ≡ Some kind = ap kind_of (sym letter.1) ∙ sym c.from-letter.ensures ∙ c.in-Some.is in (
+    let letter = c.in_ok-letter.ensures in
+    let fields = c.in_ok-fields.ensures in
+    let known : kind_of (big_endian 1 part) ≡ Some kind = ap kind_of (sym letter.1) ∙ sym c.from_letter.ensures ∙ c.in-Some.is in (
       no_fault map part kind known (search rules) letter.0 (search rules) (subst (λ rest. fields_length map ≤ length rest) letter.2 fields.0),
       c.record.ensures ∙ ap (record_of kind) (fields.1 ∙ ap (fields_in map) letter.2) ∙ read_as map part kind known,
       fields.2 ∙ ap (drop (fields_length map)) letter.2 ∙ drop-drop (fields_length map) 1 part,

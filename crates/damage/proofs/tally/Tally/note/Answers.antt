@@ -2,8 +2,8 @@ use Rattle.std.proofs.Common.{ℕ, ◌+◌, ◌<◌, length, get_or, set, ap, ar
 use Rattle.std.proofs.lemmas.List.Sums.{get_or-le-sum_by, sum_by-set}
 use Rattle.damage.proofs.tally.Tally.note.Goals as goal
 
-pub overflow-add-self : goal.overflow-add-self
-overflow-add-self c =
+pub overflow_add-self : goal.overflow_add-self
+overflow_add-self c =
     let inside : c.ending-end.result < length c.args.self.now.counts = search rules in
     record { fits = omega (arith, get_or-le-sum_by (λ (n : ℕ). n) c.args.self.now.counts c.ending-end.result 0 inside, c.requires) }
 

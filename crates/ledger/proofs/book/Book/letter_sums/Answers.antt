@@ -8,5 +8,5 @@ use Rattle.ledger.proofs.book.Book.letter_sums.Goals as goal
 pub unreachable-requires : goal.unreachable-requires
 unreachable-requires c =
     let book = c.args.self.now in
-    let sound = every_row_at sound_row book.figures.letters.rows c.in-ok-place.place.index no_letter refl book.rows in
+    let sound = every_row_at sound_row book.figures.letters.rows c.in_ok-place.place.index no_letter refl book.rows in
     both_ways _ c.in-None.ensures (ap balanced c.row.ensures ∙ (and_parts _ _ sound).0)

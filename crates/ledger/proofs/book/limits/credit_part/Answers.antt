@@ -2,8 +2,8 @@ use Rattle.std.proofs.Common.{◌*◌, ◌^◌, ℤ, pos, negsuc, ◌≤ℤ◌, 
 use Rattle.ledger.proofs.Products.{by_mag, product_fits, product_is, small}
 use Rattle.ledger.proofs.book.limits.credit_part.Goals as goal
 
-pub overflow-mul-result : goal.overflow-mul-result
-overflow-mul-result c = product_fits (8 * c.args.usage) c.args.coefficient (omega arith) c.ranges.coefficient
+pub overflow_mul-result : goal.overflow_mul-result
+overflow_mul-result c = product_fits (8 * c.args.usage) c.args.coefficient (omega arith) c.ranges.coefficient
 
 pub returns : goal.returns
 returns c =

@@ -3,7 +3,7 @@ use Rattle.draw_order.specs.declared.LetterKind.TheVariants.{BankSingle, BankInP
 use Rattle.std.proofs.lemmas.Bool.Decides.{nat_tests}
 use Rattle.ledger.proofs.book.lodge.read_terms.Goals as goal
 
-pub returns-in-default : goal.returns-in-default
-returns-in-default c =
-    let none = c.in-default.ensures in
+pub returns-in_default : goal.returns-in_default
+returns-in_default c =
+    let none = c.in_default.ensures in
     grind (arith, nat_tests, none BankSingle, none BankInParts, none InsuranceInParts)
