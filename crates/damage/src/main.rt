@@ -1,7 +1,6 @@
 // Runs a batch cut after every byte, and with every byte changed in turn, each on a new book, and prints how the runs ended.
 #![tactic(auto)]
 
-
 mod tally;
 mod trial;
 
