@@ -2,9 +2,9 @@
 use Rattle.std.proofs.Common.{◌≡◌, ℕ, zero, suc, ◌+◌, ◌-◌, ◌*◌, ◌/◌, ◌%◌, ◌<◌, ◌≤◌, Bool, true, false, cond, ◌&&◌, eqb, ltb, leb, List, [], ◌∷◌, get_or, Decides, sym, refl, ap, ◌∙◌, ⊎_elim, add-one, arith}
 use Rattle.std.specs.List.{AllByRecursion as All}
 use Rattle.std.proofs.ByRecursion.{All-get_or}
-use Rattle.std.proofs.lemmas.Bool.{cases_lt, cases_order}
+use Rattle.std.proofs.lemmas.Bool.{cases_lt, cases_order, cond_both, eqb-false, eqb-true}
 use Rattle.std.proofs.lemmas.Bool.Decides.{Decides-below_and, Decides-eqb}
-use Rattle.calendar.specs.Calendar.{first_day_of, days_in, month_lengths, leap, InMonth}
+use Rattle.calendar.specs.Calendar.{first_day_of, days_in, month_lengths, leap, InMonth, month_of}
 
 -- the days of the years before a month, of the months of its year before it, and that year's leap day
 abbrev pub counted : ℕ → ℕ
@@ -68,3 +68,19 @@ alone day m n a b = ⊎_elim (λ e. e) (λ o. absurd (⊎_elim (apart a b) (apar
   where
     apart : {k l : ℕ} → InMonth day k → InMonth day l → k < l → ⊥
     apart {k} {l} a b h = omega (arith, in_order k l h, later k)
+
+-- a day after one in a month lies in that month, or in the next if that begins with it
+next_day : (day m : ℕ) → InMonth day m → InMonth (suc day) (cond (eqb (first_day_of (m + 1)) (suc day)) (m + 1) m)
+next_day day m here = cond_both (eqb (first_day_of (m + 1)) (suc day)) (m + 1) m (InMonth (suc day))
+    (λ begins. let e = eqb-true _ _ begins in omega (arith, e, later (m + 1)))
+    (λ goes_on. let ne = eqb-false _ _ goes_on in record { from = omega arith; to = omega (arith, ne, later m) })
+
+-- the month of a day encloses it
+pub month_encloses : (day : ℕ) → InMonth day (month_of day)
+unfolding month_of first_day_of
+month_encloses zero = omega (arith, later 0)
+month_encloses (suc day) = next_day day (month_of day) (month_encloses day)
+
+-- a month that encloses a day is the day's month
+pub month_is : (day m : ℕ) → InMonth day m → m ≡ month_of day
+month_is day m here = alone day m (month_of day) here (month_encloses day)

@@ -26,3 +26,8 @@ last_day_of month = first_day_of (month + 1) - 1
 pub record InMonth (day month : ℕ) : Type 0 where
   pub from : first_day_of month ≤ day
   pub to : day ≤ last_day_of month
+
+-- The month of a day: that of the day before, or the next one if this day is its first.
+unfoldable pub month_of : ℕ → ℕ
+month_of zero = 0
+month_of (suc day) = cond (first_day_of (month_of day + 1) == suc day) (month_of day + 1) (month_of day)

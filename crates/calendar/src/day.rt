@@ -1,6 +1,6 @@
 // A day of the ledger.
 ghost use Rattle.std.specs.Prelude.{◌≡◌, ℕ, ◌<◌, ◌≤◌, MatchOption};
-ghost use Rattle.calendar.specs.Calendar.{InMonth};
+ghost use Rattle.calendar.specs.Calendar.{InMonth, month_of};
 
 use crate::month::{Month, start};
 
@@ -31,6 +31,7 @@ impl Day {
 
     // The month whose first and last day enclose this day.
     pub fn month(self) -> Month
+        ensures value { result.number ≡ month_of self.number }
         ensures encloses { InMonth self.number result.number }
         ensures alone { (m : ℕ) → InMonth self.number m → m ≡ result.number }
     {

@@ -1,5 +1,6 @@
--- What a draw order may mean, and its law.
-use Rattle.std.specs.Prelude.{◌≡◌, Bool, true, cond, not, ◌==◌, ◌≢◌, nat_lt}
+-- What a draw order may mean, its law, and the orders.
+use Rattle.std.specs.Prelude.{◌≡◌, ℕ, Bool, true, cond, not, ◌==◌, ◌≢◌, nat_lt}
+use Rattle.draw_order.specs.Kinds.{insured}
 use Rattle.draw_order.specs.declared.LetterFacts.{LetterFacts}
 
 -- Whether the first of two letters goes before the second.
@@ -17,3 +18,18 @@ CarriesOver before = (one other third : LetterFacts) → before one other ≡ tr
 -- The earlier last day goes first, and with one last day the lower number.
 abbrev pub earlier_last_day : Order
 earlier_last_day one other = cond (one.last_day == other.last_day) (nat_lt one.number other.number) (nat_lt one.last_day other.last_day)
+
+-- The smaller figure goes first; between equal figures another order decides.
+abbrev pub smaller_first : (LetterFacts → ℕ) → Order → Order
+smaller_first figure tie one other = cond (figure one == figure other) (tie one other) (nat_lt (figure one) (figure other))
+
+abbrev pub lower_number : Order
+lower_number one other = nat_lt one.number other.number
+
+-- The smaller held sum goes first, and with equal sums the lower number.
+abbrev pub smaller_held : Order
+smaller_held = smaller_first (λ letter. letter.held) lower_number
+
+-- Insurance policies go before bank letters; the rest is left to the order below.
+abbrev pub insurance_first : Order → Order
+insurance_first below = smaller_first (λ letter. cond (insured letter.kind) 0 1) below

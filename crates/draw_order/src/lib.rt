@@ -1,8 +1,10 @@
 // What the house may choose to draw letters by: of two letters, which one is claimed on before the other.
 #![tactic(auto)]
 
+pub mod orders;
+
 ghost use Rattle.std.specs.Prelude.{◌≡◌, ℕ, Bool, MatchOption, ◌≢◌};
-ghost use Rattle.draw_order.specs.Kinds.{kind_code};
+ghost use Rattle.draw_order.specs.Kinds.{insured, kind_code};
 ghost use Rattle.draw_order.specs.Orders.{Order, ExactlyOneFirst, CarriesOver, earlier_last_day};
 ghost use Rattle.draw_order.specs.declared.LetterKind.{LetterKind};
 ghost use Rattle.std.proofs.Common.{rules};
@@ -26,6 +28,15 @@ impl LetterKind {
             2 => Some(LetterKind::BankInParts),
             3 => Some(LetterKind::InsuranceInParts),
             _ => None,
+        }
+    }
+
+    pub fn is_insurance(self) -> bool
+        ensures { result ≡ insured self }
+    {
+        match self {
+            LetterKind::BankSingle | LetterKind::BankInParts => false,
+            LetterKind::InsuranceInParts => true,
         }
     }
 }

@@ -13,6 +13,14 @@ booked row = elim row.standing [ Free ↦ false | In ↦ true | Out demanded ↦
 abbrev pub free : Letter → Bool
 free row = not (booked row)
 
+-- The letter's original is in the strongroom.
+abbrev pub original_in : Letter → Bool
+original_in row = elim row.standing [ Free ↦ false | In ↦ true | Out demanded ↦ false | Ended ↦ false ]
+
+-- It is with the issuer, who was asked for a sum.
+abbrev pub original_out : Letter → Bool
+original_out row = elim row.standing [ Free ↦ false | In ↦ false | Out demanded ↦ true | Ended ↦ false ]
+
 -- What a free row holds: nothing.
 abbrev pub no_letter : Letter
 no_letter =
@@ -47,6 +55,11 @@ has_letter number rows = some_row (numbered number) rows
 
 abbrev pub letter_row : ℕ → List Letter → Letter
 letter_row number rows = slice_index_or rows (first_place (numbered number) rows) no_letter
+
+-- No two letters of the table have one number.
+abbrev pub distinct_numbers : List Letter → Bool
+distinct_numbers [] = true
+distinct_numbers (row ∷ rows) = (free row || not (has_letter row.number rows)) && distinct_numbers rows
 
 -- The letter's days include this day.
 abbrev pub includes : ℕ → Letter → Bool

@@ -1,8 +1,9 @@
 // A row of the table of letters. Rows are plain figures: what always holds of them is stated where the table stands.
 ghost use Rattle.std.specs.Prelude.{◌≡◌};
-ghost use Rattle.letters.specs.Letters.{booked, includes};
+ghost use Rattle.letters.specs.Choosing.{facts, usable};
+ghost use Rattle.letters.specs.Letters.{booked, includes, original_in, original_out};
 
-use draw_order::LetterKind;
+use draw_order::{LetterFacts, LetterKind};
 
 #[derive(Clone, Copy)]
 pub enum Standing {
@@ -59,5 +60,45 @@ impl Letter {
         ensures { result ≡ includes day self.now }
     {
         self.first_day <= day && day <= self.last_day
+    }
+
+    // Whether the letter can be claimed on.
+    pub fn is_usable(&self, day: u16) -> bool
+        ensures { result ≡ usable day self.now }
+    {
+        self.is_in() && self.held > 0 && self.includes(day)
+    }
+
+    // Whether the original is in the strongroom.
+    pub fn is_in(&self) -> bool
+        ensures { result ≡ original_in self.now }
+    {
+        match self.standing {
+            Standing::In => true,
+            Standing::Free | Standing::Out { .. } | Standing::Ended => false,
+        }
+    }
+
+    // Whether the original is with the issuer.
+    pub fn is_out(&self) -> bool
+        ensures { result ≡ original_out self.now }
+    {
+        match self.standing {
+            Standing::Out { .. } => true,
+            Standing::Free | Standing::In | Standing::Ended => false,
+        }
+    }
+
+    // What an order knows of the letter.
+    pub fn facts(&self) -> LetterFacts
+        ensures { result ≡ facts self.now }
+    {
+        LetterFacts {
+            number: self.number,
+            kind: self.kind,
+            first_day: self.first_day,
+            last_day: self.last_day,
+            held: self.held,
+        }
     }
 }

@@ -47,6 +47,57 @@ impl LetterSums {
         })
     }
 
+    // What is held is given back.
+    pub fn give_back(self) -> LetterSums
+        ensures { (result.lodged ≡ self.lodged) × (result.drawn ≡ self.drawn) × (result.returned ≡ self.returned + self.held) × (result.lapsed ≡ self.lapsed) × (result.held ≡ 0) }
+    {
+        let lapsed = self.lapsed;
+        LetterSums {
+            lodged: self.lodged,
+            drawn: self.drawn,
+            returned: self.returned + self.held,
+            lapsed,
+            held: 0,
+        }
+    }
+
+    // What is held lapses.
+    pub fn lapse(self) -> LetterSums
+        ensures { (result.lodged ≡ self.lodged) × (result.drawn ≡ self.drawn) × (result.returned ≡ self.returned) × (result.lapsed ≡ self.lapsed + self.held) × (result.held ≡ 0) }
+    {
+        LetterSums {
+            lodged: self.lodged,
+            drawn: self.drawn,
+            returned: self.returned,
+            lapsed: self.lapsed + self.held,
+            held: 0,
+        }
+    }
+
+    pub fn lodged(self) -> u32
+        ensures { result ≡ self.lodged }
+    {
+        self.lodged
+    }
+
+    pub fn drawn(self) -> u32
+        ensures { result ≡ self.drawn }
+    {
+        self.drawn
+    }
+
+    pub fn returned(self) -> u32
+        ensures { result ≡ self.returned }
+    {
+        self.returned
+    }
+
+    pub fn lapsed(self) -> u32
+        ensures { result ≡ self.lapsed }
+    {
+        self.lapsed
+    }
+
     pub fn held(self) -> u32
         ensures { result ≡ self.held }
     {

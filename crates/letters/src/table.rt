@@ -7,6 +7,9 @@ use crate::letter::{Letter, Standing};
 use draw_order::LetterKind;
 use tables::{RowAmount, RowTest, first_place, total};
 
+mod choosing;
+mod days;
+
 pub const PLACES: usize = 24;
 
 // A place of the table.
@@ -92,6 +95,12 @@ impl LetterTable {
         LetterTable {
             rows: [Letter::NONE; PLACES],
         }
+    }
+
+    pub fn from_rows(rows: [Letter; PLACES]) -> LetterTable
+        ensures { result.rows ≡ rows }
+    {
+        LetterTable { rows }
     }
 
     // Where the letter with this number stands.

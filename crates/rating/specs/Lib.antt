@@ -1,1 +1,4 @@
+pub mod Grades
+pub mod Guangxi
 pub mod Policies
+pub mod Table

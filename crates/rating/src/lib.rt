@@ -2,6 +2,10 @@
 // hundredths, which scales the part of its limit that needs no letter.
 #![tactic(auto)]
 
+pub mod guangxi;
+pub mod layers;
+pub mod streaks;
+
 ghost use Rattle.std.specs.Prelude.{Bool, ◌≡◌, ℤ, pos, negsuc, ◌≤ℤ◌};
 ghost use Rattle.rating.specs.Policies.{Coefficient, InRange, flat_zero};
 ghost use Rattle.rating.specs.declared.Grades.{Grades};

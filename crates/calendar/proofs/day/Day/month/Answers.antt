@@ -1,5 +1,5 @@
 use Rattle.std.proofs.Common.{◌+◌, ◌/◌, ◌≤◌, arith}
-use Rattle.calendar.proofs.Starts.{at_most_31_each, numbered, alone}
+use Rattle.calendar.proofs.Starts.{at_most_31_each, numbered, alone, month_is}
 use Rattle.calendar.specs.Calendar.{first_day_of, InMonth}
 use Rattle.calendar.proofs.day.Day.month.Goals as goal
 
@@ -14,4 +14,4 @@ loop-self-preserved c =
 pub returns : goal.returns
 returns c =
     let here : InMonth c.args.self.number c.loop-self.month = omega arith in
-    record { encloses = here; alone = λ m there. alone _ m _ there here }
+    record { value = month_is _ _ here; encloses = here; alone = λ m there. alone _ m _ there here }

@@ -1,0 +1,22 @@
+use Rattle.std.proofs.Common.{◌≡◌, ℕ, ◌-◌, ◌≤◌, min, List, length, take, sum_by, sym, ap, ◌∙◌, ⊎_elim, arith, rules}
+use Rattle.std.proofs.lemmas.List.{take_all}
+use Rattle.std.proofs.lemmas.Bool.{cases_lt}
+use Rattle.months.proofs.Exposure.{exposure_small}
+use Rattle.months.specs.Accounts.{month_exposure}
+use Rattle.months.proofs.table.MonthTable.exposure.Goals as goal
+
+-- past the end of a list there is nothing to take
+take_min : {X : Type 0} (n most : ℕ) (xs : List X) → length xs ≤ most → take (min n most) xs ≡ take n xs
+take_min n most xs h = ⊎_elim
+    (λ l. ap (λ k. take k xs) (omega arith))
+    (λ g. take_all (min n most) xs (omega arith) ∙ sym (take_all n xs (omega arith)))
+    (cases_lt n most)
+
+pub returns : goal.returns
+returns c =
+    let rows = c.args.self.now.rows in
+    let long : length rows ≤ 36 = search rules in
+    let e = take_min c.args.months 36 rows long in
+    let m : c.min.result - 0 ≡ min c.args.months 36 = omega arith in
+    let is = c.total.ensures ∙ ap (λ k. sum_by month_exposure (take k rows)) m ∙ ap (sum_by month_exposure) e in
+    record { value = is; small = λ sound. omega (arith, is, long, exposure_small rows c.args.months sound) }
