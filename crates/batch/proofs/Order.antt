@@ -1,11 +1,11 @@
 -- The answers of a run stand at the front of the list, in the order of the batch.
-use Rattle.std.proofs.Common.{◌≡◌, ℕ, zero, suc, ◌+◌, ◌-◌, ◌<◌, ◌≤◌, Bool, true, false, cond, eqb, List, [], ◌∷◌, length, get_or, drop, Some, None, Option, Result, sym, refl, ap, ◌∙◌, subst₂, le_of_suc-le-suc, arith}
+use Rattle.std.proofs.Common.{◌≡◌, ℕ, zero, suc, ◌+◌, ◌<◌, ◌≤◌, Bool, true, false, cond, eqb, List, [], ◌∷◌, length, get_or, drop, Some, None, Option, Result, sym, refl, ap, ◌∙◌, subst₂, le_of_suc-le-suc, arith}
 use Rattle.draw_order.specs.Orders.{Order}
 use Rattle.ledger.specs.declared.figures.Figures.{Figures}
 use Rattle.rating.specs.Policies.{Coefficient}
 use Rattle.refusals.specs.Conditions.{first_given}
 use Rattle.records.specs.Records.{record_in, record_length}
-use Rattle.batch.specs.Runs.{InOrder, Ran, Run, answer_to, answered, answered_in, book_after_record, ended, faults, run, stopped, unless_fault}
+use Rattle.batch.specs.Runs.{InOrder, Ran, Run, answered, answered_in, book_after_record, ended, faults, run, stopped, unless_fault}
 use Rattle.batch.specs.declared.answer.Answer.{Answer}
 use Rattle.batch.specs.declared.fault.BatchFault.{BatchFault}
 use Rattle.records.specs.declared.fault.RecordFault.{RecordFault}

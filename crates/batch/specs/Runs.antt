@@ -7,7 +7,6 @@ use Rattle.ledger.specs.Opening.{empty_on, opening_outcome}
 use Rattle.ledger.specs.Outcomes.{book_after, outcome_number, outcome_of}
 use Rattle.ledger.specs.declared.figures.Figures.{Figures}
 use Rattle.ledger.specs.declared.outcome.Outcome.{Outcome}
-use Rattle.ledger.specs.declared.outcome.Outcome.TheVariants.{Accepted, Refused}
 use Rattle.rating.specs.Policies.{Coefficient}
 use Rattle.refusals.specs.Conditions.{Condition, ◌gives◌, first_given}
 use Rattle.records.specs.Records.{entry_kind, record_faults, record_in, record_length}

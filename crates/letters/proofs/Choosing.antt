@@ -1,11 +1,11 @@
 -- The letter that goes first, as a walk over the rows finds it.
-use Rattle.std.proofs.Common.{◌≡◌, ℕ, zero, suc, ◌+◌, ◌<◌, ◌≤◌, Bool, true, false, cond, not, ◌&&◌, ◌||◌, eqb, ltb, ◌⊎◌, List, [], ◌∷◌, length, get_or, IfSome, Some, None, Option, sym, refl, ap, ◌∙◌, subst, inl, inr, ⊎_elim, arith, MatchOption}
+use Rattle.std.proofs.Common.{◌≡◌, ℕ, zero, suc, ◌+◌, ◌<◌, Bool, true, false, cond, not, ◌||◌, eqb, ◌⊎◌, List, [], ◌∷◌, length, get_or, IfSome, Some, None, Option, sym, refl, ap, ◌∙◌, subst, inl, inr, ⊎_elim, arith, MatchOption}
 use Rattle.draw_order.specs.Orders.{CarriesOver, ExactlyOneFirst, Order}
 use Rattle.draw_order.specs.declared.LetterFacts.{LetterFacts}
 use Rattle.std.proofs.lemmas.Bool.{and_from, and_left, and_parts, both_ways, cases_Bool, cases_eq, cases_lt, cond_both, eq-eqb, eqb-true, not_from_false, not_from_true, or_cases, or_from, or_left, or_parts, or_right}
 use Rattle.tables.proofs.Kept.{every_row_at}
 use Rattle.tables.proofs.Places.{every_row_from, no_row_from, only_place, some_row_at}
-use Rattle.tables.specs.Rows.{every_row, first_place, some_row}
+use Rattle.tables.specs.Rows.{first_place, some_row}
 use Rattle.letters.specs.Choosing.{FirstUsable, OnlyFirstUsable, facts, goes_first, usable}
 use Rattle.letters.specs.Letters.{booked, distinct_numbers, no_letter, numbered}
 use Rattle.letters.specs.declared.letter.Letter.{Letter}

@@ -3,7 +3,6 @@ use Rattle.std.specs.Prelude.{ℕ, ◌+◌, Bool, true, false, cond, not, ◌&&�
 use Rattle.draw_order.specs.declared.LetterKind.TheVariants.{BankSingle}
 use Rattle.tables.specs.Rows.{first_place, some_row}
 use Rattle.letters.specs.declared.letter.Letter.{Letter}
-use Rattle.letters.specs.declared.letter.Standing.{Standing}
 use Rattle.letters.specs.declared.letter.Standing.TheVariants.{Free, In, Out, Ended}
 
 -- A row has a letter unless it is free.

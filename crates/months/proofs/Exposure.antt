@@ -1,5 +1,5 @@
 -- The exposure of the months stays small, and bills and receipts keep it so.
-use Rattle.std.proofs.Common.{◌≡◌, ℕ, ◌+◌, ◌-◌, ◌*◌, ◌≤◌, Bool, true, not, ◌&&◌, eqb, List, [], ◌∷◌, ◌++◌, length, get_or, take, set, ℤ, pos, negsuc, Some, None, sum_by, Option, unwrap_or, refl, arith}
+use Rattle.std.proofs.Common.{◌≡◌, ℕ, ◌-◌, ◌*◌, ◌≤◌, true, not, List, [], ◌∷◌, length, take, ℤ, pos, Some, None, sum_by, Option, unwrap_or, refl, arith}
 use lib.Signed.{le_z}
 use Rattle.refusals.proofs.Joining.{none_of_first}
 use Rattle.refusals.specs.Conditions.{◌gives◌, first_given}

@@ -1,5 +1,5 @@
 -- Bills and receipts.
-use Rattle.std.specs.Prelude.{ℕ, ◌+◌, ◌-◌, Bool, cond, not, ◌&&◌, ◌||◌, List, [], ◌∷◌, ◌++◌, ℤ, pos, negsuc, is_some, ◌==◌, int_le, nat_le, nat_lt, slice_index_or, slice_set}
+use Rattle.std.specs.Prelude.{ℕ, ◌+◌, ◌-◌, Bool, cond, not, ◌&&◌, ◌||◌, List, [], ◌∷◌, ◌++◌, pos, negsuc, is_some, ◌==◌, int_le, nat_le, nat_lt, slice_index_or, slice_set}
 use Rattle.refusals.specs.Conditions.{Condition, ◌gives◌}
 use Rattle.refusals.specs.Ranges.{is_month, is_sum, within}
 use Rattle.refusals.specs.declared.Refusal.{Refusal}

@@ -1,6 +1,6 @@
 -- The Guangxi table.
 use Rattle.std.specs.Prelude.{◌≡◌, ℕ, ◌≤◌, max, Bool, true, false, cond, ◌⊎◌, List, [], ◌∷◌, ℤ, pos, negsuc, Some, None, fold, Option, nat_le}
-use Rattle.std.specs.List.{ContainsAt as Has, AllByRecursion as All}
+use Rattle.std.specs.List.{ContainsAt, AllByRecursion}
 use Rattle.rating.specs.Grades.{streak}
 use Rattle.rating.specs.Policies.{Coefficient}
 use Rattle.rating.specs.declared.Grade.{Grade}
@@ -42,11 +42,11 @@ guangxi g arrears = elim (highest g) [ None ↦ by_newest g.newest | Some c ↦ 
 -- more ..
 pub record HighestRow (g : Grades) (coefficient : ℤ) : Type 0 where
   pub row_taken : TableRow
-  pub of_the_table : Has rows row_taken
+  pub of_the_table : ContainsAt rows row_taken
   pub it_fits : fits g row_taken ≡ true
   pub it_gives : coefficient ≡ pos row_taken.coefficient
-  pub none_higher : All (λ other. fits g other ≡ true → other.coefficient ≤ row_taken.coefficient) rows
+  pub none_higher : AllByRecursion (λ other. fits g other ≡ true → other.coefficient ≤ row_taken.coefficient) rows
 
 -- .. or no row fits, and the newest grade alone decides.
 abbrev pub GuangxiRule : Grades → ℤ → Type 0
-GuangxiRule g coefficient = HighestRow g coefficient ⊎ (All (λ r. fits g r ≡ false) rows × (coefficient ≡ by_newest g.newest))
+GuangxiRule g coefficient = HighestRow g coefficient ⊎ (AllByRecursion (λ r. fits g r ≡ false) rows × (coefficient ≡ by_newest g.newest))

@@ -1,11 +1,11 @@
 -- The Guangxi table gives what its highest fitting row gives, or what the newest grade gives.
-use Rattle.std.specs.Prelude.{◌≡◌, ℕ, ◌≤◌, max, Bool, true, false, cond, ◌⊎◌, List, [], ◌∷◌, ◌++◌, ℤ, pos, negsuc, ◌≤ℤ◌, Some, None, fold, Option, refl}
+use Rattle.std.specs.Prelude.{◌≡◌, ℕ, ◌≤◌, max, Bool, true, false, cond, ◌⊎◌, List, [], ◌∷◌, ◌++◌, pos, negsuc, ◌≤ℤ◌, Some, None, fold, Option, refl}
 use Rattle.std.proofs.Common.{append_assoc, append-nil, inl, inr, ⊎_elim, sym, ap, subst, arith}
 use Rattle.std.proofs.ByRecursion.{all-has, All-push, All-weaker, has_append_left, has_push}
 use Rattle.std.proofs.lemmas.Int.{ints}
 use Rattle.std.proofs.lemmas.Bool.{both_ways, cases_lt}
-use Rattle.std.specs.List.{ContainsAt as Has, AllByRecursion as All}
-use Rattle.rating.specs.Guangxi.{GuangxiRule, HighestRow, better, by_newest, fits, guangxi, highest, rows}
+use Rattle.std.specs.List.{ContainsAt, AllByRecursion}
+use Rattle.rating.specs.Guangxi.{GuangxiRule, better, by_newest, fits, guangxi, highest, rows}
 use Rattle.rating.specs.declared.Grade.{Grade}
 use Rattle.rating.specs.declared.Grade.TheVariants.{Unrated, C, B, A, AA, AAA}
 use Rattle.rating.specs.declared.Grades.{Grades}
@@ -15,14 +15,14 @@ module _ (g : Grades) where
   -- the highest row of some
   record BestRow (seen : List TableRow) (c : ℕ) : Type 0 where
     taken : TableRow
-    among : Has seen taken
+    among : ContainsAt seen taken
     holds : fits g taken ≡ true
     is : taken.coefficient ≡ c
-    top : All (λ other. fits g other ≡ true → other.coefficient ≤ c) seen
+    top : AllByRecursion (λ other. fits g other ≡ true → other.coefficient ≤ c) seen
 
   -- what is known once some rows were looked at
   abbrev Seen : List TableRow → Option ℕ → Type 0
-  Seen seen None = All (λ r. fits g r ≡ false) seen
+  Seen seen None = AllByRecursion (λ r. fits g r ≡ false) seen
   Seen seen (Some c) = BestRow seen c
 
   by_fit : (seen : List TableRow) (so_far : Option ℕ) (r : TableRow) (b : Bool) → fits g r ≡ b → Seen seen so_far → Seen (seen ++ r ∷ []) (cond b (elim so_far [ None ↦ Some r.coefficient | Some c ↦ Some (max c r.coefficient) ]) so_far)
@@ -95,7 +95,7 @@ newest_in_range A = omega (arith, ints)
 newest_in_range AA = omega (arith, ints)
 newest_in_range AAA = omega (arith, ints)
 
-small_rows : All (λ (r : TableRow). r.coefficient ≤ 100) rows
+small_rows : AllByRecursion (λ (r : TableRow). r.coefficient ≤ 100) rows
 small_rows = omega arith
 
 pub in_range : (g : Grades) (arrears : Bool) → (negsuc 99 ≤ℤ guangxi g arrears) × (guangxi g arrears ≤ℤ pos 100)

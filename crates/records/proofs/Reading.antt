@@ -1,5 +1,5 @@
 -- A record whose map is that of its kind, and which has all of its bytes, has no fault.
-use Rattle.std.proofs.Common.{◌≡◌, ℕ, ◌+◌, ◌≤◌, true, false, cond, not, ltb, List, length, drop, is_some, Some, None, Result, unwrap_or, sym, ap, ◌∙◌, subst, arith, length-drop, MatchResult}
+use Rattle.std.proofs.Common.{◌≡◌, ℕ, ◌≤◌, true, cond, not, List, length, drop, is_some, Some, None, Result, unwrap_or, sym, ap, ◌∙◌, subst, arith, length-drop, MatchResult}
 use Rattle.refusals.proofs.Deciding.{first_decides}
 use Rattle.refusals.specs.Conditions.{◌gives◌, first_given, FirstDecides}
 use Rattle.std.proofs.lemmas.List.{drop-drop}

@@ -1,5 +1,5 @@
 -- The fields of a record.
-use Rattle.std.specs.Prelude.{ℕ, ◌+◌, ◌*◌, ◌/◌, ◌%◌, ◌^◌, Bool, cond, List, [], ◌∷◌, take, fold, ◌==◌}
+use Rattle.std.specs.Prelude.{ℕ, ◌+◌, ◌*◌, ◌/◌, ◌%◌, ◌^◌, Bool, cond, List, take, fold, ◌==◌}
 use Rattle.records.specs.declared.field.FieldName.{FieldName}
 use Rattle.records.specs.declared.field.FieldName.TheVariants.{Kind, Party, Number, Code, Sum, Day, LastDay, Month}
 

@@ -1,7 +1,7 @@
 -- What `first_given` gives is given by the first condition that holds.
-use Rattle.std.proofs.Common.{◌≡◌, ℕ, zero, suc, ◌<◌, ◌≤◌, Bool, true, false, cond, List, [], ◌∷◌, length, get_or, Some, None, Option, refl, subst, le_of_suc-le-suc, arith, MatchOption}
+use Rattle.std.proofs.Common.{◌≡◌, ℕ, zero, suc, Bool, true, false, cond, List, [], ◌∷◌, length, Some, None, Option, refl, subst, le_of_suc-le-suc, arith}
 use Rattle.std.specs.List.{AllWithin}
-use Rattle.refusals.specs.Conditions.{Condition, first_given, First, NoneHolds, FirstDecides}
+use Rattle.refusals.specs.Conditions.{Condition, first_given, NoneHolds, FirstDecides}
 
 module _ {X : Type 0} where
   -- a condition that fails, before others that fail

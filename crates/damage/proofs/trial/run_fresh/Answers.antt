@@ -1,4 +1,4 @@
-use Rattle.std.proofs.Common.{ltb, length, replicate, refl, ap, ◌∙◌}
+use Rattle.std.proofs.Common.{ltb, length, replicate, ap, ◌∙◌}
 use Rattle.batch.specs.Runs.{Run, answered_in, run}
 use Rattle.draw_order.specs.Orders.{earlier_last_day}
 use Rattle.ledger.specs.declared.figures.Figures.{Figures}

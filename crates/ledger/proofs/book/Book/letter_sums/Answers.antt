@@ -1,4 +1,4 @@
-use Rattle.std.proofs.Common.{sym, refl, ap, ◌∙◌}
+use Rattle.std.proofs.Common.{refl, ap, ◌∙◌}
 use Rattle.letters.specs.Letters.{balanced, no_letter, sound_row}
 use Rattle.std.proofs.lemmas.Bool.{and_parts, both_ways}
 use Rattle.tables.proofs.Kept.{every_row_at}
