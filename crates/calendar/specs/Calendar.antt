@@ -7,7 +7,7 @@ leap year = year % 4 == 0 && (not (year % 100 == 0) || year % 400 == 0)
 
 -- How many days each month of a year has, January first.
 abbrev pub month_lengths : Bool → List ℕ
-month_lengths leap-year = 31 ∷ cond leap-year 29 28 ∷ 31 ∷ 30 ∷ 31 ∷ 30 ∷ 31 ∷ 31 ∷ 30 ∷ 31 ∷ 30 ∷ 31 ∷ []
+month_lengths leap_year = 31 ∷ cond leap_year 29 28 ∷ 31 ∷ 30 ∷ 31 ∷ 30 ∷ 31 ∷ 31 ∷ 30 ∷ 31 ∷ 30 ∷ 31 ∷ []
 
 -- How many days a month has. Months are counted from January 2024, which is month 0.
 abbrev pub days_in : ℕ → ℕ

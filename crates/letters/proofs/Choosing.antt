@@ -54,13 +54,13 @@ module _ (before : Order) (day : ℕ) (rows : List Letter) where
       which other i h = ⊎_elim inl (λ h'. inr (omega arith)) (cases_lt other i)
 
   pub passed_over : (i : ℕ) (first : Option Candidate) → usable day (at i) ≡ false → Leads i first → Leads (i + 1) first
-  passed_over i None not-usable none = up_to i none not-usable
-  passed_over i (Some c) not-usable (is, lead) = (
+  passed_over i None not_usable none = up_to i none not_usable
+  passed_over i (Some c) not_usable (is, lead) = (
     is,
     record {
       in_front = omega (arith, lead.in_front);
       is_usable = lead.is_usable;
-      ahead = λ distinct. up_to i (lead.ahead distinct) (λ usable'. absurd (both_ways _ not-usable usable'));
+      ahead = λ distinct. up_to i (lead.ahead distinct) (λ usable'. absurd (both_ways _ not_usable usable'));
     },
   )
 
@@ -68,7 +68,7 @@ module _ (before : Order) (day : ℕ) (rows : List Letter) where
   abbrev pub first_of : ℕ → LetterFacts → Option Candidate → Candidate
   first_of i known first = elim first [ None ↦ record { index = i; facts = known } | Some c ↦ cond (before known c.facts) (record { index = i; facts = known }) c ]
 
-  module _ (one-first : ExactlyOneFirst before) (carries : CarriesOver before) (i : ℕ) (h : i < length rows) (here : usable day (at i) ≡ true) where
+  module _ (one_first : ExactlyOneFirst before) (carries : CarriesOver before) (i : ℕ) (h : i < length rows) (here : usable day (at i) ≡ true) where
     alone : ((other : ℕ) → other < i → usable day (at other) ≡ false) → Ahead (i + 1) i
     alone none =
         record {
@@ -94,7 +94,7 @@ module _ (before : Order) (day : ℕ) (rows : List Letter) where
         record {
           in_front = omega (arith, lead.in_front);
           is_usable = lead.is_usable;
-          ahead = λ distinct. up_to i (lead.ahead distinct) (λ _ _. one-first _ _ (different rows distinct place i lead.in_front h (usable_is_booked day (at place) lead.is_usable) (usable_is_booked day (at i) here)) ∙ ap not loses);
+          ahead = λ distinct. up_to i (lead.ahead distinct) (λ _ _. one_first _ _ (different rows distinct place i lead.in_front h (usable_is_booked day (at place) lead.is_usable) (usable_is_booked day (at i) here)) ∙ ap not loses);
         }
 
     pub taken : (first : Option Candidate) → Leads i first → Leads (i + 1) (Some (first_of i (facts (at i)) first))
@@ -118,7 +118,7 @@ module _ (before : Order) (day : ℕ) (rows : List Letter) where
         }
 
 -- a letter that goes first is the only one that does, and the first that is found
-module _ (before : Order) (one-first : ExactlyOneFirst before) (day : ℕ) (rows : List Letter) (distinct : distinct_numbers rows ≡ true) where
+module _ (before : Order) (one_first : ExactlyOneFirst before) (day : ℕ) (rows : List Letter) (distinct : distinct_numbers rows ≡ true) where
   abbrev row : ℕ → Letter
   row i = get_or rows i no_letter
 
@@ -131,7 +131,7 @@ module _ (before : Order) (one-first : ExactlyOneFirst before) (day : ℕ) (rows
   same_place : (i j : ℕ) → i < length rows → j < length rows → usable day (row i) ≡ true → usable day (row j) ≡ true → ((i ≡ j → ⊥) → before (facts (row i)) (facts (row j)) ≡ true) → ((i ≡ j → ⊥) → before (facts (row j)) (facts (row i)) ≡ true) → i ≡ j
   same_place i j hi hj one other first second = ⊎_elim
       (λ same. same)
-      (λ not_same. absurd (both_ways _ (one-first _ _ (numbers_differ i j hi hj one other not_same) ∙ ap not (second not_same)) (first not_same)))
+      (λ not_same. absurd (both_ways _ (one_first _ _ (numbers_differ i j hi hj one other not_same) ∙ ap not (second not_same)) (first not_same)))
       (cases_eq i j)
 
   pub only : (place : ℕ) → FirstUsable before day rows place → OnlyFirstUsable before day rows place
@@ -149,7 +149,7 @@ module _ (before : Order) (one-first : ExactlyOneFirst before) (day : ℕ) (rows
   test_passes place first = and_from _ _ first.is_usable (every_row_from (beaten_by (row place)) no_letter rows (λ other h. beaten other h (cases_Bool (usable day (row other))) (cases_eq other place)))
     where
       beaten : (other : ℕ) → other < length rows → (usable day (row other) ≡ true) ⊎ (usable day (row other) ≡ false) → (other ≡ place) ⊎ (other ≡ place → ⊥) → beaten_by (row place) (row other) ≡ true
-      beaten other h (inr not-usable) which = or_left _ _ (or_left _ _ (not_from_false _ not-usable))
+      beaten other h (inr not_usable) which = or_left _ _ (or_left _ _ (not_from_false _ not_usable))
       beaten other h (inl is_usable) (inl same) = or_left _ _ (or_right _ _ (eq-eqb _ _ (ap (λ p. (row p).number) same)))
       beaten other h (inl is_usable) (inr not_same) = or_right _ _ (first.before_others other h is_usable not_same)
 
@@ -160,10 +160,10 @@ module _ (before : Order) (one-first : ExactlyOneFirst before) (day : ℕ) (rows
       same_place other place h first.within parts.0 first.is_usable
       (λ not_same. ⊎_elim
       (λ either. ⊎_elim
-      (λ not-usable. absurd (both_ways _ (not_from_true _ first.is_usable) not-usable))
+      (λ not_usable. absurd (both_ways _ (not_from_true _ first.is_usable) not_usable))
       (λ same_number. absurd (numbers_differ other place h first.within parts.0 first.is_usable not_same (sym (eqb-true _ _ same_number))))
       (or_cases _ _ either))
-      (λ before-it. before-it)
+      (λ before_it. before_it)
       (or_cases _ _ beaten))
       (first.before_others other h parts.0)
 

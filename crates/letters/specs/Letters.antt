@@ -74,8 +74,8 @@ held_on day rows = sum_by (λ row. cond (includes day row) row.held 0) rows
 
 -- A letter that starts on this day may follow the row's: it starts no later than the day after that one's last.
 abbrev pub followed_by : ℕ → Letter → Bool
-followed_by first_day_of row = booked row && nat_le first_day_of (row.last_day + 1)
+followed_by first_day row = booked row && nat_le first_day (row.last_day + 1)
 
 -- A letter may start no later than its target month does, or than some booked letter allows that it follows.
 abbrev pub starts_in_time : ℕ → ℕ → List Letter → Bool
-starts_in_time first_day_of target-start rows = nat_le first_day_of target-start || some_row (followed_by first_day_of) rows
+starts_in_time first_day target_start rows = nat_le first_day target_start || some_row (followed_by first_day) rows

@@ -28,8 +28,8 @@ fits_or_zero None fits = refl
 fits_or_zero (Some sum) fits = fits
 
 settlement_fits : (formal provisional : Option ℤ) → bill_fits formal ≡ true → bill_fits provisional ≡ true → le_z (elim formal [ Some sum ↦ sum | None ↦ unwrap_or provisional (pos 0) ]) (pos 1_000_000_000_000) ≡ true
-settlement_fits None provisional formal-fits fits = fits_or_zero provisional fits
-settlement_fits (Some sum) provisional fits provisional-fits = fits
+settlement_fits None provisional formal_fits fits = fits_or_zero provisional fits
+settlement_fits (Some sum) provisional fits provisional_fits = fits
 
 month_small : (m : MonthAccount) → sound_account m ≡ true → month_exposure m ≤ 2_000_000_000_000
 month_small m sound =

@@ -8,8 +8,8 @@ use Rattle.months.specs.declared.terms.PaymentKind.{PaymentKind}
 use Rattle.months.specs.declared.terms.PaymentKind.TheVariants.{Settlement, Fee as FeePayment}
 
 abbrev account : Option ℤ → Option ℤ → Option ℤ → ℕ → ℕ → MonthAccount
-account provisional formal fee settlement-paid fee-paid =
-    record { provisional = provisional; formal = formal; fee = fee; settlement_paid = settlement-paid; fee_paid = fee-paid }
+account provisional formal fee settled fees =
+    record { provisional = provisional; formal = formal; fee = fee; settlement_paid = settled; fee_paid = fees }
 
 -- Nothing was billed and nothing paid.
 abbrev pub no_account : MonthAccount

@@ -26,14 +26,14 @@ module _ (g : Grades) where
   Seen seen (Some c) = BestRow seen c
 
   by_fit : (seen : List TableRow) (so_far : Option ℕ) (r : TableRow) (b : Bool) → fits g r ≡ b → Seen seen so_far → Seen (seen ++ r ∷ []) (cond b (elim so_far [ None ↦ Some r.coefficient | Some c ↦ Some (max c r.coefficient) ]) so_far)
-  by_fit seen None r false no-fit known = All-push _ seen r known no-fit
-  by_fit seen (Some c) r false no-fit known =
+  by_fit seen None r false no_fit known = All-push _ seen r known no_fit
+  by_fit seen (Some c) r false no_fit known =
       record {
         taken = known.taken;
         among = has_append_left seen (r ∷ []) known.taken known.among;
         holds = known.holds;
         is = known.is;
-        top = All-push _ seen r known.top (λ does. absurd (both_ways _ no-fit does));
+        top = All-push _ seen r known.top (λ does. absurd (both_ways _ no_fit does));
       }
   by_fit seen None r true does known =
       record {
@@ -41,7 +41,7 @@ module _ (g : Grades) where
         among = has_push seen r;
         holds = does;
         is = refl;
-        top = All-push _ seen r (All-weaker _ _ (λ other no-fit yes'. absurd (both_ways _ no-fit yes')) seen known) (λ _. omega arith);
+        top = All-push _ seen r (All-weaker _ _ (λ other no_fit yes'. absurd (both_ways _ no_fit yes')) seen known) (λ _. omega arith);
       }
   by_fit seen (Some c) r true does known = ⊎_elim
       (λ (h : r.coefficient ≤ c).

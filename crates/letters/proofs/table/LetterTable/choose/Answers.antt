@@ -8,15 +8,15 @@ pub returns-in-Some : goal.returns-in-Some
 returns-in-Some g c =
     let order = c.args.order.now in
     let before = g.O.DrawOrder.before order in
-    let one-first = g.met.O.DrawOrder.one_first order in
+    let one_first = g.met.O.DrawOrder.one_first order in
     let day = c.args.day in
     let rows = c.args.self.now.rows in
     let found = c.in-Some.ensures in
     let place = c.in-Some.first.index in
     record {
       some = some_row_at (usable day) no_letter rows place found.some.0 found.some.1;
-      first = λ distinct. found_first before one-first day rows distinct place (found.first distinct);
-      only = λ distinct. only before one-first day rows distinct place (found.first distinct);
+      first = λ distinct. found_first before one_first day rows distinct place (found.first distinct);
+      only = λ distinct. only before one_first day rows distinct place (found.first distinct);
     }
 
 pub returns-in-None : goal.returns-in-None
