@@ -1,4 +1,3 @@
+pub mod Cover
 pub mod Limits
-pub mod Lodging
-pub mod Products
-pub mod Settling
+pub mod Rows

@@ -1,6 +1,11 @@
-pub mod Colours
+pub mod Billing
+pub mod Cover
+pub mod Days
+pub mod Figures
 pub mod Limits
 pub mod Lodge
 pub mod Opening
-pub mod Outcomes
-pub mod Parties
+pub mod Postings
+pub mod Returning
+pub mod Standing
+pub mod Trading

@@ -1,9 +1,6 @@
-// The book of one retailer: its figures, the opening and the postings.
+// The book of one retailer: its figures, the opening, the postings and the question.
 #![tactic(auto)]
 
 pub mod book;
-pub mod colour;
 pub mod figures;
-pub mod outcome;
-pub mod party;
-pub mod terms;
+pub mod statement;

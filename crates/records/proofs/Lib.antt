@@ -1,4 +1,3 @@
-pub mod Bytes
 pub mod OwnBytes
 pub mod Parts
 pub mod Reading

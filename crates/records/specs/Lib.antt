@@ -1,4 +1,3 @@
 pub mod Faults
-pub mod Fields
 pub mod Kinds
 pub mod Records

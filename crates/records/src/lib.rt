@@ -2,6 +2,5 @@
 #![tactic(auto)]
 
 pub mod fault;
-pub mod field;
 pub mod kind;
 pub mod record;

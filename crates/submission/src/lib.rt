@@ -10,7 +10,8 @@ use batch::fault::BatchFault;
 use batch::run::run_batch;
 use draw_order::EarliestLastDay;
 use ledger::book::Book;
-use rating::FlatZero;
+use rating::guangxi::GuangxiTable;
+use rating::layers::ArrearsLayer;
 
 // A batch has at most so many bytes.
 pub const MOST_BYTES: usize = 16_384;
@@ -24,7 +25,10 @@ pub fn submit(batch: &[u8], book: &mut Book, answers: &mut [Answer]) -> Result<u
     if batch.len() > MOST_BYTES {
         return Err(BatchFault::TooLong);
     }
-    run_batch(batch, book, answers, &FlatZero, &EarliestLastDay)
+    let rating = ArrearsLayer {
+        below: GuangxiTable,
+    };
+    run_batch(batch, book, answers, &rating, &EarliestLastDay)
 }
 
 // How many records were answered: all, or those before the fault.

@@ -1,0 +1,4 @@
+// The fields of which the records of a batch are made.
+#![tactic(auto)]
+
+pub mod field;

@@ -1,0 +1,119 @@
+// The lodging of a letter.
+ghost use Rattle.std.specs.Prelude.{◌≡◌, ◌+◌, ◌≤◌, true, false, MatchResult};
+ghost use Rattle.letters.specs.Letters.{free, held_total};
+ghost use Rattle.refusals.specs.Conditions.{CarriedOut, Checked};
+ghost use Rattle.refusals.specs.declared.Refusal.TheVariants.{OutOfRange};
+ghost use Rattle.tables.specs.Rows.{first_place};
+ghost use Rattle.lodging.specs.Lodging.{days_fit, in_range, kind_of, lodge_conditions, lodged, new_letter};
+
+use crate::terms::LetterTerms;
+use calendar::month::Month;
+use draw_order::LetterKind;
+use letters::letter::{Letter, Standing};
+use letters::sums::LetterSums;
+use letters::table::{LetterTable, Place};
+use refusals::Refusal;
+
+// No held sums may add up to more, in fen.
+const MOST_HELD: u128 = 3_000_000_000;
+
+const MOST_SUM: u32 = 3_000_000_000;
+
+const LAST_DAY: u16 = 7304;
+
+const LAST_NUMBER: u16 = 9999;
+
+// A letter that may be lodged, and the place for it.
+#[derive(Clone, Copy)]
+struct NewLetter {
+    place: Place,
+    row: Letter,
+}
+
+// Puts a letter into the first free place of the table.
+pub fn lodge(letters: &mut LetterTable, today: u16, terms: LetterTerms) -> Result<(), Refusal>
+    ensures { CarriedOut (lodge_conditions letters.old.rows today terms) letters.old.rows (lodged letters.old.rows terms) result letters.new.rows }
+{
+    match check_lodge(letters, today, terms) {
+        Ok(new) => {
+            letters.put(new.place, new.row);
+            Ok(())
+        }
+        Err(refusal) => Err(refusal),
+    }
+}
+
+fn check_lodge(letters: &LetterTable, today: u16, terms: LetterTerms) -> Result<NewLetter, Refusal>
+    ensures { Checked (lodge_conditions letters.now.rows today terms) result (λ new. (new.place.index ≡ first_place free letters.now.rows) × (new.row ≡ new_letter terms)) }
+{
+    let (kind, target, sixth) = read_terms(terms)?;
+    if letters.find(terms.number).is_some() {
+        return Err(Refusal::NumberTaken);
+    }
+    let Some(place) = letters.free_place() else {
+        return Err(Refusal::NoPlace);
+    };
+    if !days_fit(letters, today, terms, target, sixth) {
+        return Err(Refusal::DaysDoNotFit);
+    }
+    if letters.held().saturating_add(terms.sum as u128) > MOST_HELD {
+        return Err(Refusal::TotalTooLarge);
+    }
+    Ok(NewLetter {
+        place,
+        row: new_letter(terms, kind),
+    })
+}
+
+fn days_fit(
+    letters: &LetterTable,
+    today: u16,
+    terms: LetterTerms,
+    target: Month,
+    sixth: Month,
+) -> bool
+    requires { (target.number ≡ terms.target_month) × (sixth.number ≡ terms.target_month + 6) }
+    ensures { result ≡ days_fit letters.now.rows today terms }
+{
+    today <= terms.last_day
+        && terms.first_day <= terms.last_day
+        && sixth.last_day().number() <= terms.last_day
+        && letters.starts_in_time(terms.first_day, target.first_day().number())
+}
+
+// The kind, the target month and the sixth month after it, if every figure is in its range.
+fn read_terms(terms: LetterTerms) -> Result<(LetterKind, Month, Month), Refusal>
+    ensures { MatchResult result (λ p. (in_range terms ≡ true) × (p.0 ≡ kind_of terms.kind) × (p.1.number ≡ terms.target_month) × (p.2.number ≡ terms.target_month + 6)) (λ e. (in_range terms ≡ false) × (e ≡ OutOfRange)) }
+{
+    let Some(kind) = LetterKind::from_code(terms.kind) else {
+        return Err(Refusal::OutOfRange);
+    };
+    let Some(target) = Month::new(terms.target_month) else {
+        return Err(Refusal::OutOfRange);
+    };
+    // The target month needs six months after it.
+    let Some(sixth) = target.later(6) else {
+        return Err(Refusal::OutOfRange);
+    };
+    if terms.number == 0 || terms.number > LAST_NUMBER || terms.sum == 0 || terms.sum > MOST_SUM {
+        return Err(Refusal::OutOfRange);
+    }
+    if terms.first_day > LAST_DAY || terms.last_day > LAST_DAY {
+        return Err(Refusal::OutOfRange);
+    }
+    Ok((kind, target, sixth))
+}
+
+fn new_letter(terms: LetterTerms, kind: LetterKind) -> Letter
+    requires { kind ≡ kind_of terms.kind }
+    ensures { result ≡ new_letter terms }
+{
+    LetterSums::lodge(terms.sum).written_to(Letter {
+        number: terms.number,
+        kind,
+        first_day: terms.first_day,
+        last_day: terms.last_day,
+        standing: Standing::In,
+        ..Letter::NONE
+    })
+}

@@ -1,0 +1,6 @@
+// What is handed in to a book, by whom, and what is answered.
+#![tactic(auto)]
+
+pub mod outcome;
+pub mod party;
+pub mod posting;
