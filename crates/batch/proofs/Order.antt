@@ -55,8 +55,8 @@ module _ (policy : Coefficient) (order : Order) where
   unfolding run
   goes [] n offset bytes f = full_by n offset f (eqb (length bytes) 0)
   goes (place ∷ places) n offset bytes f =
-      place_by n offset place places f _ _ (eqb (length bytes) 0) (first_given (faults (n + 1) bytes)) refl
-      (goes places (n + 1) (offset + record_length bytes) (drop (record_length bytes) bytes) (book_after_record policy f (record_in bytes)))
+      place_by n offset place places f _ _ (eqb (length bytes) 0) (first_given (faults (n + 1) f bytes)) refl
+      (goes places (n + 1) (offset + record_length bytes) (drop (record_length bytes) bytes) (book_after_record f (record_in bytes)))
 
   pub in_order : (places : List Answer) (bytes : List ℕ) (f : Figures) → InOrder places (run policy order places 0 0 bytes f).answers (answered_in (run policy order places 0 0 bytes f).result)
   in_order places bytes f =

@@ -29,16 +29,16 @@ module _ (policy : Coefficient) (order : Order) (n offset : ℕ) (bytes : List �
 
   module _ (place : Answer) (places : List Answer) (more : eqb (length bytes) 0 ≡ false) where
     abbrev next : Run
-    next = run policy order places (n + 1) (offset + record_length bytes) (drop (record_length bytes) bytes) (book_after_record policy f (record_in bytes))
+    next = run policy order places (n + 1) (offset + record_length bytes) (drop (record_length bytes) bytes) (book_after_record f (record_in bytes))
 
-    cases : run policy order (place ∷ places) n offset bytes f ≡ unless_fault (first_given (faults (n + 1) bytes)) (stopped (place ∷ places) f n offset) (answered (answer_to policy (n + 1) f (record_in bytes)) next)
+    cases : run policy order (place ∷ places) n offset bytes f ≡ unless_fault (first_given (faults (n + 1) f bytes)) (stopped (place ∷ places) f n offset) (answered (answer_to policy (n + 1) f (record_in bytes)) next)
     unfolding run
     cases = cond-false _ _ _ more
 
-    pub run_stops : {fault : RecordFault} → first_given (faults (n + 1) bytes) ≡ Some fault → run policy order (place ∷ places) n offset bytes f ≡ stopped (place ∷ places) f n offset fault
+    pub run_stops : {fault : RecordFault} → first_given (faults (n + 1) f bytes) ≡ Some fault → run policy order (place ∷ places) n offset bytes f ≡ stopped (place ∷ places) f n offset fault
     run_stops some = cases ∙ ap (λ given. unless_fault given (stopped (place ∷ places) f n offset) (answered (answer_to policy (n + 1) f (record_in bytes)) next)) some
 
-    pub run_goes_on : first_given (faults (n + 1) bytes) ≡ None → run policy order (place ∷ places) n offset bytes f ≡ answered (answer_to policy (n + 1) f (record_in bytes)) next
+    pub run_goes_on : first_given (faults (n + 1) f bytes) ≡ None → run policy order (place ∷ places) n offset bytes f ≡ answered (answer_to policy (n + 1) f (record_in bytes)) next
     run_goes_on none = cases ∙ ap (λ given. unless_fault given (stopped (place ∷ places) f n offset) (answered (answer_to policy (n + 1) f (record_in bytes)) next)) none
 
 -- answers that stand before those of a run
@@ -77,16 +77,16 @@ module _ {policy : Coefficient} {order : Order} {whole : Run} {bytes : List ℕ}
     split : drop i places ≡ get_or places i place ∷ drop (i + 1) places
     split = drop_more places i place inside
 
-    pub at_fault : {fault : RecordFault} → first_given (faults (i + 1) rest) ≡ Some fault → whole ≡ stopped places f i (length bytes - length rest) fault
+    pub at_fault : {fault : RecordFault} → first_given (faults (i + 1) f rest) ≡ Some fault → whole ≡ stopped places f i (length bytes - length rest) fault
     at_fault {fault} some =
         s.same ∙ ap (λ l. behind (take i places) (run policy order l i here rest f)) split
         ∙ ap (behind (take i places)) (run_stops policy order i here rest f (get_or places i place) (drop (i + 1) places) more some)
         ∙ ap (λ l. stopped (take i places ++ l) f i here fault) (sym split) ∙ ap (λ l. stopped l f i here fault) (take-append-drop i places)
 
-    pub one_more : {answer : Answer} {next : List ℕ} {after : Figures} → first_given (faults (i + 1) rest) ≡ None → answer ≡ answer_to policy (i + 1) f (record_in rest) → next ≡ drop (record_length rest) rest → after ≡ book_after_record policy f (record_in rest) → Along policy order whole bytes (i + 1) (set places i answer) next after
+    pub one_more : {answer : Answer} {next : List ℕ} {after : Figures} → first_given (faults (i + 1) f rest) ≡ None → answer ≡ answer_to policy (i + 1) f (record_in rest) → next ≡ drop (record_length rest) rest → after ≡ book_after_record f (record_in rest) → Along policy order whole bytes (i + 1) (set places i answer) next after
     one_more {answer} {next} {after} none a r b =
         let read = record_length rest in
-        let full = has_bytes rest (none_in_first (record_faults rest) (turn_faults (i + 1) (record_in rest)) none) in
+        let full = has_bytes rest (none_in_first (record_faults rest) (turn_faults (i + 1) f (record_in rest)) none) in
         let shorter = ap length r ∙ length-drop read rest in
         let untouched = drop-set-lt (i + 1) places i answer (omega arith) in
         let left = run policy order (drop (i + 1) (set places i answer)) (i + 1) (length bytes - length next) next after in

@@ -1,7 +1,7 @@
 -- The lines that a program prints of a run.
 use Rattle.std.specs.Prelude.{ℕ, List, ◌++◌, codes, decimal}
 use Rattle.std.proofs.Math.Utf8.{encode}
-use Rattle.limits.specs.Colours.{colour_letter}
+use Rattle.ledger.specs.Colours.{colour_letter}
 use Rattle.records.specs.Faults.{fault_number}
 use Rattle.records.specs.Kinds.{kind_letter}
 use Rattle.batch.specs.declared.answer.Answer.{Answer}

@@ -1,12 +1,12 @@
 -- What the run of a batch does.
-use Rattle.std.specs.Prelude.{◌≡◌, ℕ, ◌+◌, ◌-◌, ◌<◌, ◌≤◌, Bool, cond, not, ◌&&◌, List, [], ◌∷◌, ◌++◌, length, drop, Some, None, Ok, Err, Option, Result, ◌==◌, nat_eq, slice_index_or}
+use Rattle.std.specs.Prelude.{◌≡◌, ℕ, ◌+◌, ◌-◌, ◌<◌, ◌≤◌, Bool, true, false, cond, not, ◌&&◌, List, [], ◌∷◌, ◌++◌, length, drop, Some, None, Ok, Err, Option, Result, ◌==◌, slice_index_or}
 use Rattle.draw_order.specs.Orders.{Order}
 use Rattle.ledger.specs.Limits.{colour}
+use Rattle.ledger.specs.Lodge.{lodge_conditions, lodged}
 use Rattle.ledger.specs.Opening.{empty_on, opening_outcome}
-use Rattle.ledger.specs.Postings.{posted, posting_conditions}
+use Rattle.ledger.specs.Outcomes.{book_after, outcome_number, outcome_of}
 use Rattle.ledger.specs.declared.figures.Figures.{Figures}
-use Rattle.postings.specs.Outcomes.{book_after, outcome_number, outcome_of}
-use Rattle.postings.specs.declared.outcome.Outcome.{Outcome}
+use Rattle.ledger.specs.declared.outcome.Outcome.{Outcome}
 use Rattle.rating.specs.Policies.{Coefficient}
 use Rattle.refusals.specs.Conditions.{Condition, ◌gives◌, first_given}
 use Rattle.records.specs.Records.{entry_kind, record_faults, record_in, record_length}
@@ -17,32 +17,31 @@ use Rattle.batch.specs.declared.fault.FaultAt.{FaultAt}
 use Rattle.batch.specs.declared.fault.Position.{Position}
 use Rattle.records.specs.declared.fault.RecordFault.{RecordFault}
 use Rattle.records.specs.declared.fault.RecordFault.TheVariants.{OutOfTurn, ListFull}
-use Rattle.records.specs.declared.record.Entry.TheVariants.{Opening, Posting}
+use Rattle.records.specs.declared.record.Entry.TheVariants.{Opening, Lodge}
 use Rattle.records.specs.declared.record.Record.{Record}
 
 -- What the opening or posting of a record answers.
-abbrev pub record_outcome : Coefficient → Figures → Record → Outcome
-record_outcome policy f r = elim r.entry [ Opening day ↦ opening_outcome r.party day | Posting p ↦ outcome_of (first_given (posting_conditions policy f r.party p)) ]
+abbrev pub record_outcome : Figures → Record → Outcome
+record_outcome f r = elim r.entry [ Opening day ↦ opening_outcome r.party day | Lodge terms ↦ outcome_of (first_given (lodge_conditions f r.party terms)) ]
 
 -- The book after it.
-abbrev pub book_after_record : Coefficient → Figures → Record → Figures
-book_after_record policy f r = book_after (record_outcome policy f r) f (elim r.entry [ Opening day ↦ empty_on day | Posting p ↦ posted f p ])
+abbrev pub book_after_record : Figures → Record → Figures
+book_after_record f r = book_after (record_outcome f r) f (elim r.entry [ Opening day ↦ empty_on day | Lodge terms ↦ lodged f terms ])
 
 -- The answer to the record with this number.
 abbrev pub answer_to : Coefficient → ℕ → Figures → Record → Answer
-answer_to policy number f r =
-    record { number = number; kind = entry_kind r.entry; result = outcome_number (record_outcome policy f r); colour = colour policy (book_after_record policy f r) }
+answer_to policy number f r = record { number = number; kind = entry_kind r.entry; result = outcome_number (record_outcome f r); colour = colour policy (book_after_record f r) }
+
+abbrev pub opens : Record → Bool
+opens r = elim r.entry [ Opening day ↦ true | Lodge terms ↦ false ]
 
 -- The first record is an opening that is accepted, and no later record is an opening.
-abbrev pub in_turn : ℕ → Record → Bool
-in_turn number r = elim r.entry [ Opening day ↦ (number == 1) && nat_eq (outcome_number (opening_outcome r.party day)) 0 | Posting p ↦ not (number == 1) ]
-
-abbrev pub turn_faults : ℕ → Record → List (Condition RecordFault)
-turn_faults number r = not (in_turn number r) gives OutOfTurn ∷ []
+abbrev pub turn_faults : ℕ → Figures → Record → List (Condition RecordFault)
+turn_faults number f r = not (cond (number == 1) (opens r && outcome_number (record_outcome f r) == 0) (not (opens r))) gives OutOfTurn ∷ []
 
 -- All faults of a record in their order, where a place is left for its answer.
-abbrev pub faults : ℕ → List ℕ → List (Condition RecordFault)
-faults number bytes = record_faults bytes ++ turn_faults number (record_in bytes)
+abbrev pub faults : ℕ → Figures → List ℕ → List (Condition RecordFault)
+faults number f bytes = record_faults bytes ++ turn_faults number f (record_in bytes)
 
 -- A record's fault at its place in the batch.
 abbrev pub located : {T : Type 0} → Position → Result T RecordFault → Result T FaultAt
@@ -76,9 +75,9 @@ unfoldable pub run : Coefficient → Order → List Answer → ℕ → ℕ → L
 run policy order [] n offset bytes f = cond (length bytes == 0) (ended [] f n) (stopped [] f n offset ListFull)
 run policy order (place ∷ places) n offset bytes f =
     let r = record_in bytes in
-    let next = run policy order places (n + 1) (offset + record_length bytes) (drop (record_length bytes) bytes) (book_after_record policy f r) in
+    let next = run policy order places (n + 1) (offset + record_length bytes) (drop (record_length bytes) bytes) (book_after_record f r) in
     cond (length bytes == 0) (ended (place ∷ places) f n)
-    (unless_fault (first_given (faults (n + 1) bytes)) (stopped (place ∷ places) f n offset) (answered (answer_to policy (n + 1) f r) next))
+    (unless_fault (first_given (faults (n + 1) f bytes)) (stopped (place ∷ places) f n offset) (answered (answer_to policy (n + 1) f r) next))
 
 -- How many records were answered: all, or those before the fault.
 abbrev pub answered_in : Result ℕ BatchFault → ℕ

@@ -2,7 +2,7 @@
 ghost use Rattle.std.specs.Prelude.{Some};
 ghost use Rattle.batch.specs.Lines.{answer_line};
 
-use limits::colour::Colour;
+use ledger::colour::Colour;
 use records::kind::Kind;
 use std::fmt;
 

@@ -1,9 +1,8 @@
 // The run of a batch: record after record is read, posted and answered, up to the first fault.
 ghost use Rattle.std.specs.Prelude.{◌≡◌, ◌+◌, ◌-◌, ◌^◌, ◌<◌, ◌≤◌, true, false, length, drop, Some, None, MatchResult, ◌==◌};
-ghost use Rattle.postings.specs.Outcomes.{outcome_number};
-ghost use Rattle.refusals.specs.Conditions.{Checked, first_given};
+ghost use Rattle.refusals.specs.Conditions.{first_given};
 ghost use Rattle.records.specs.Records.{record_in, record_length};
-ghost use Rattle.batch.specs.Runs.{Ran, answer_to, book_after_record, faults, located, record_outcome, turn_faults};
+ghost use Rattle.batch.specs.Runs.{Ran, answer_to, book_after_record, faults, located, turn_faults};
 ghost use Rattle.records.specs.declared.fault.RecordFault.TheVariants.{ListFull};
 
 use crate::answer::Answer;
@@ -22,43 +21,33 @@ fn post_record<R: RatingPolicy, O: DrawOrder>(
     rating: &R,
     order: &O,
 ) -> Result<Answer, RecordFault>
-    ensures fault { Checked (turn_faults number «record») result (λ answer. answer ≡ answer_to (R.coefficient rating.now) number book.old.figures «record») }
-    ensures after { MatchResult result (λ _. book.new.figures ≡ book_after_record (R.coefficient rating.now) book.old.figures «record») (λ _. book.new.figures ≡ book.old.figures) }
+    ensures fault { MatchResult result (λ answer. (first_given (turn_faults number book.old.figures «record») ≡ None) × (answer ≡ answer_to (R.coefficient rating.now) number book.old.figures «record»)) (λ fault. first_given (turn_faults number book.old.figures «record») ≡ Some fault) }
+    ensures after { MatchResult result (λ _. book.new.figures ≡ book_after_record book.old.figures «record») (λ _. book.new.figures ≡ book.old.figures) }
 {
-    let result = enter(book, record, number, rating, order)?;
+    let result = match record.entry {
+        Entry::Opening { day } => {
+            if number != 1 {
+                return Err(RecordFault::OutOfTurn);
+            }
+            let result = open(book, record.party, day);
+            if result != 0 {
+                return Err(RecordFault::OutOfTurn);
+            }
+            result
+        }
+        Entry::Lodge(terms) => {
+            if number == 1 {
+                return Err(RecordFault::OutOfTurn);
+            }
+            book.lodge(record.party, terms, rating, order).number()
+        }
+    };
     Ok(Answer {
         number,
         kind: record.entry.kind(),
         result,
         colour: book.colour(rating),
     })
-}
-
-// Opens the book by the first record, or posts a later one, and answers the number of the outcome.
-fn enter<R: RatingPolicy, O: DrawOrder>(
-    book: &mut Book,
-    record: Record,
-    number: usize,
-    rating: &R,
-    order: &O,
-) -> Result<u8, RecordFault>
-    ensures fault { Checked (turn_faults number «record») result (λ answered. answered ≡ outcome_number (record_outcome (R.coefficient rating.now) book.old.figures «record»)) }
-    ensures after { MatchResult result (λ _. book.new.figures ≡ book_after_record (R.coefficient rating.now) book.old.figures «record») (λ _. book.new.figures ≡ book.old.figures) }
-{
-    match record.entry {
-        Entry::Opening { day } => {
-            if number == 1 && open(book, record.party, day) == 0 {
-                return Ok(0);
-            }
-            Err(RecordFault::OutOfTurn)
-        }
-        Entry::Posting(posting) => {
-            if number == 1 {
-                return Err(RecordFault::OutOfTurn);
-            }
-            Ok(book.post(record.party, posting, rating, order).number())
-        }
-    }
 }
 
 // Runs a batch on the book and the list that are lent. Each record that is read fills the next place of the list; the
@@ -108,8 +97,8 @@ fn take_record<'a, R: RatingPolicy, O: DrawOrder>(
     rating: &R,
     order: &O,
 ) -> Result<(Answer, &'a [u8]), RecordFault>
-    ensures fault { MatchResult result (λ p. (first_given (faults number part.now) ≡ None) × (p.0 ≡ answer_to (R.coefficient rating.now) number book.old.figures (record_in part.now)) × (p.1.now ≡ drop (record_length part.now) part.now)) (λ fault. first_given (faults number part.now) ≡ Some fault) }
-    ensures after { MatchResult result (λ _. book.new.figures ≡ book_after_record (R.coefficient rating.now) book.old.figures (record_in part.now)) (λ _. book.new.figures ≡ book.old.figures) }
+    ensures fault { MatchResult result (λ p. (first_given (faults number book.old.figures part.now) ≡ None) × (p.0 ≡ answer_to (R.coefficient rating.now) number book.old.figures (record_in part.now)) × (p.1.now ≡ drop (record_length part.now) part.now)) (λ fault. first_given (faults number book.old.figures part.now) ≡ Some fault) }
+    ensures after { MatchResult result (λ _. book.new.figures ≡ book_after_record book.old.figures (record_in part.now)) (λ _. book.new.figures ≡ book.old.figures) }
 {
     let (record, behind) = read_record(part)?;
     let answer = post_record(book, record, number, rating, order)?;

@@ -5,13 +5,14 @@ use Rattle.batch.specs.Runs.{Run, answered_in, run}
 use Rattle.batch.specs.declared.answer.Answer.{Answer}
 use Rattle.batch.specs.declared.fault.BatchFault.{BatchFault}
 use Rattle.batch.specs.declared.fault.BatchFault.TheVariants.{TooLong}
+use Rattle.draw_order.specs.Orders.{earlier_last_day}
 use Rattle.ledger.specs.Opening.{empty_on}
 use Rattle.ledger.specs.declared.figures.Figures.{Figures}
 use Rattle.letters.specs.Letters.{has_letter, letter_row}
-use Rattle.limits.specs.declared.colour.Colour.TheVariants.{Red}
+use Rattle.ledger.specs.declared.colour.Colour.TheVariants.{Red}
+use Rattle.rating.specs.Policies.{flat_zero}
 use Rattle.records.specs.declared.kind.Kind.TheVariants.{Opening}
 use Rattle.std.specs.Result.{result_err}
-use Rattle.submission.specs.Submitted.{house_order, house_rating}
 
 -- What a place of the answer list holds before it is filled.
 abbrev pub blank : Answer
@@ -19,7 +20,7 @@ blank = record { number = 0; kind = Opening; result = 0; colour = Red }
 
 -- The run of a batch on a new book, with eight places for answers.
 abbrev pub fresh_run : List ℕ → Run
-fresh_run batch = run house_rating house_order (replicate 8 blank) 0 0 batch (empty_on 0)
+fresh_run batch = run flat_zero earlier_last_day (replicate 8 blank) 0 0 batch (empty_on 0)
 
 -- What the letter with a number holds, 0 where the book has none.
 abbrev pub letter_holds : ℕ → Figures → ℕ

@@ -1,3 +1,4 @@
-pub mod Cover
 pub mod Limits
-pub mod Rows
+pub mod Lodging
+pub mod Products
+pub mod Settling

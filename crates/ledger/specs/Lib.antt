@@ -1,11 +1,6 @@
-pub mod Billing
-pub mod Cover
-pub mod Days
-pub mod Figures
+pub mod Colours
 pub mod Limits
 pub mod Lodge
 pub mod Opening
-pub mod Postings
-pub mod Returning
-pub mod Standing
-pub mod Trading
+pub mod Outcomes
+pub mod Parties

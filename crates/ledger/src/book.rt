@@ -1,20 +1,13 @@
 // The book of one retailer. Its type carries what holds of the figures of every book that can be.
 ghost use Rattle.std.specs.Prelude.{◌≡◌, ◌≤◌, true};
 ghost use Rattle.letters.specs.Letters.{held_total, sound_row};
-ghost use Rattle.months.specs.Accounts.{sound_account};
 ghost use Rattle.tables.specs.Rows.{every_row};
 
 use crate::figures::Figures;
 
-mod billing;
-mod bounds;
-mod days;
+mod limits;
 mod lodge;
 mod opening;
-mod post;
-mod returning;
-mod standing;
-mod trading;
 
 pub use opening::open;
 
@@ -24,5 +17,4 @@ pub struct Book {
     ghost dated: { figures.today ≤ 7304 },
     ghost rows: { every_row sound_row figures.letters.rows ≡ true },
     ghost held: { held_total figures.letters.rows ≤ 3000000000 },
-    ghost accounts: { every_row sound_account figures.months.rows ≡ true },
 }

@@ -1,6 +1,9 @@
-// The book of one retailer: its figures, the opening, the postings and the question.
+// The book of one retailer: its figures, the opening and the postings.
 #![tactic(auto)]
 
 pub mod book;
+pub mod colour;
 pub mod figures;
-pub mod statement;
+pub mod outcome;
+pub mod party;
+pub mod terms;

@@ -1,3 +1,4 @@
+pub mod Bytes
 pub mod OwnBytes
 pub mod Parts
 pub mod Reading

@@ -4,13 +4,13 @@ use Rattle.refusals.specs.Conditions.{◌gives◌, first_given}
 use Rattle.std.proofs.lemmas.List.{drop-drop, drop-take, take-take}
 use Rattle.std.proofs.lemmas.Bool.{le-ltb}
 use Rattle.records.proofs.Reading.{has_bytes}
-use Rattle.fields.specs.Fields.{big_endian, field_length, stands, twos_complement, width_of}
+use Rattle.records.specs.Fields.{big_endian, field_length, stands, width_of}
 use Rattle.records.specs.Kinds.{kind_of}
 use Rattle.records.specs.Records.{OwnBytesDecide, ahead, body_length, field_value, fields_in, fields_length, has_map, record_length, record_of}
 use Rattle.records.specs.declared.fault.RecordFault.{RecordFault}
 use Rattle.records.specs.declared.fault.RecordFault.TheVariants.{Cut, UnknownKind, WrongMap}
-use Rattle.fields.specs.declared.field.FieldName.{FieldName}
-use Rattle.fields.specs.declared.field.FieldName.TheVariants.{Party, Number, Code, Sum, Day, LastDay, Month, Payee, SignedSum, Kind as KindByte}
+use Rattle.records.specs.declared.field.FieldName.{FieldName}
+use Rattle.records.specs.declared.field.FieldName.TheVariants.{Party, Number, Code, Sum, Day, LastDay, Month, Kind as KindByte}
 use Rattle.records.specs.declared.kind.Kind.{Kind}
 use Rattle.records.specs.declared.kind.Kind.TheVariants.{Opening}
 
@@ -43,14 +43,12 @@ module _ (n : ℕ) (xs ys : List ℕ) (same : take n xs ≡ take n ys) where
     day = field_alike map Day (omega arith) i;
     last_day = field_alike map LastDay (omega arith) i;
     month = field_alike map Month (omega arith) i;
-    payee = field_alike map Payee (omega arith) i;
-    signed_sum = twos_complement (field_alike map SignedSum (omega arith) i);
   }
 
 -- the faults of a record by what they look at
 abbrev faults_by : Bool → ℕ → Bool → Option Kind → Bool → Option RecordFault
-faults_by no-map map no_kind kind cut =
-    first_given (no-map gives Cut ∷ not (stands map KindByte) gives UnknownKind ∷ no_kind gives Cut ∷ not (is_some kind) gives UnknownKind ∷ not (has_map kind map) gives WrongMap ∷ cut gives Cut ∷ [])
+faults_by no_map map no_kind kind cut =
+    first_given (no_map gives Cut ∷ not (stands map KindByte) gives UnknownKind ∷ no_kind gives Cut ∷ not (is_some kind) gives UnknownKind ∷ not (has_map kind map) gives WrongMap ∷ cut gives Cut ∷ [])
 
 pub own_bytes_decide : (bytes : List ℕ) → OwnBytesDecide bytes
 own_bytes_decide bytes none other same =
@@ -59,11 +57,11 @@ own_bytes_decide bytes none other same =
     let long : n ≤ length other = omega (arith, ap length same, length-take n other, length-take n bytes) in
     let map = number_alike n other bytes same 0 2 (omega arith) in
     let letter = number_alike n other bytes same 2 1 (omega arith) in
-    let no-map = le-ltb (length other) 2 (omega arith) ∙ sym (le-ltb (length bytes) 2 (omega arith)) in
+    let no_map = le-ltb (length other) 2 (omega arith) ∙ sym (le-ltb (length bytes) 2 (omega arith)) in
     let no_kind = le-ltb (length (drop 2 other)) 1 (omega (arith, length-drop 2 other)) ∙ sym (le-ltb (length (drop 2 bytes)) 1 (omega (arith, length-drop 2 bytes))) in
     let cut : ltb (length (drop 2 other)) (body_length (big_endian 2 other)) ≡ ltb (length (drop 2 bytes)) (body_length (big_endian 2 bytes)) = ap (λ m. ltb (length (drop 2 other)) (body_length m)) map ∙ le-ltb (length (drop 2 other)) (body_length (big_endian 2 bytes)) (omega (arith, length-drop 2 other)) ∙ sym (le-ltb (length (drop 2 bytes)) (body_length (big_endian 2 bytes)) (omega (arith, length-drop 2 bytes))) in
     let fields = ap (λ m. fields_in m (drop 1 (drop 2 other))) map ∙ fields_alike n other bytes same (big_endian 2 bytes) (omega arith) in (
-      (λ i. faults_by (no-map i) (map i) (no_kind i) (kind_of (letter i)) (cut i)) ∙ none,
+      (λ i. faults_by (no_map i) (map i) (no_kind i) (kind_of (letter i)) (cut i)) ∙ none,
       λ i. record_of (unwrap_or (kind_of (letter i)) Opening) (fields i),
       ap (λ m. 2 + body_length m) map,
     )

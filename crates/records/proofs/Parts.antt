@@ -1,9 +1,9 @@
 -- A part of some bytes that starts in their middle.
-use Rattle.std.proofs.Common.{◌≡◌, ℕ, ◌+◌, ◌<◌, ◌≤◌, Bool, true, false, cond, List, length, drop, ℤ, pos, Err, Result, sym, refl, ap, ◌∙◌, subst, arith, length-drop, MatchResult}
+use Rattle.std.proofs.Common.{◌≡◌, ℕ, ◌+◌, ◌<◌, ◌≤◌, cond, List, length, drop, refl, ap, ◌∙◌, arith, length-drop}
 use Rattle.std.proofs.lemmas.List.{drop-drop}
-use Rattle.fields.specs.Fields.{big_endian, stands, twos_complement, width_of}
+use Rattle.records.specs.Fields.{big_endian, stands, width_of}
 use Rattle.records.specs.Records.{ahead, field_value}
-use Rattle.fields.specs.declared.field.FieldName.{FieldName}
+use Rattle.records.specs.declared.field.FieldName.{FieldName}
 
 -- the part starts behind the first n bytes of the whole
 pub record Starts (whole : List ℕ) (n : ℕ) (part : List ℕ) : Type 0 where
@@ -22,21 +22,9 @@ pub ◌then◌ : {whole part next : List ℕ} {n k : ℕ} {Value : Type 0} → S
 ◌then◌ {whole} {n = n} {k = k} s took = record { within = omega (arith, left s, took.0); rest = took.2 ∙ ap (drop k) s.rest ∙ drop-drop k n whole }
 
 -- the part is too short for k bytes, so the whole is too short for all
-cut : {whole part : List ℕ} {n k : ℕ} → Starts whole n part → length part < k → length whole < n + k
+pub cut : {whole part : List ℕ} {n k : ℕ} → Starts whole n part → length part < k → length whole < n + k
 cut s short = omega (arith, left s)
-
--- so what was read of the whole is a fault, and the whole is too short for whatever has all of these bytes
-pub too_short : {T E : Type 0} {whole part : List ℕ} {n k : ℕ} {e : E} (P : T → Type 0) (total : ℕ) (r : Result T E) → Starts whole n part → length part < k → n + k ≤ total → r ≡ Err e → MatchResult r P (λ _. length whole < total)
-too_short {whole = whole} P total r s short fits is = subst (λ r. MatchResult r P (λ _. length whole < total)) (sym is) (omega (arith, cut s short))
 
 -- what a field reads as from the part that starts with it is what it holds
 pub placed : {whole part : List ℕ} {n value : ℕ} (map : ℕ) (field : FieldName) → Starts whole n part → value ≡ cond (stands map field) (big_endian (width_of field) part) 0 → n ≡ ahead map field → value ≡ field_value map field whole
 placed {whole} map field s is same = is ∙ ap (λ part. cond (stands map field) (big_endian (width_of field) part) 0) (s.rest ∙ ap (λ k. drop k whole) same)
-
--- the same of a signed field
-pub placed_signed : {whole part : List ℕ} {n : ℕ} {value : ℤ} (map : ℕ) (field : FieldName) → Starts whole n part → value ≡ cond (stands map field) (twos_complement (big_endian (width_of field) part)) (pos 0) → n ≡ ahead map field → value ≡ twos_complement (field_value map field whole)
-placed_signed {part = part} map field s is same = is ∙ under (stands map field) (big_endian (width_of field) part) ∙ ap twos_complement (placed map field s refl same)
-  where
-    under : (b : Bool) (n : ℕ) → cond b (twos_complement n) (pos 0) ≡ twos_complement (cond b n 0)
-    under true n = refl
-    under false n = refl

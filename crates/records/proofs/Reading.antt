@@ -5,12 +5,12 @@ use Rattle.refusals.specs.Conditions.{◌gives◌, first_given, FirstDecides}
 use Rattle.std.proofs.lemmas.List.{drop-drop}
 use Rattle.std.proofs.lemmas.Result.{MatchResult-weaker}
 use Rattle.std.proofs.lemmas.Bool.{cond-false, eq-eqb, le-ltb, ltb-false}
-use Rattle.fields.specs.Fields.{big_endian, stands}
+use Rattle.records.specs.Fields.{big_endian, stands}
 use Rattle.records.specs.Kinds.{kind_map, kind_of}
 use Rattle.records.specs.Records.{body_faults, body_in, body_length, fields_in, fields_length, has_map, record_faults, record_in, record_length, record_of}
 use Rattle.records.specs.declared.fault.RecordFault.{RecordFault}
 use Rattle.records.specs.declared.fault.RecordFault.TheVariants.{Cut, UnknownKind, WrongMap}
-use Rattle.fields.specs.declared.field.FieldName.TheVariants.{Kind as KindByte}
+use Rattle.records.specs.declared.field.FieldName.TheVariants.{Kind as KindByte}
 use Rattle.records.specs.declared.kind.Kind.{Kind}
 use Rattle.records.specs.declared.kind.Kind.TheVariants.{Opening}
 use Rattle.records.specs.declared.record.Record.{Record}
@@ -18,10 +18,10 @@ use Rattle.records.specs.declared.record.Record.{Record}
 module _ (map : ℕ) (part : List ℕ) (kind : Kind) (known : kind_of (big_endian 1 part) ≡ Some kind) where
   pub no_fault : stands map KindByte ≡ true → 1 ≤ length part → map ≡ kind_map kind → fields_length map ≤ length (drop 1 part) → first_given (body_faults map part) ≡ None
   no_fault stands some fits long =
-      let kind-byte = le-ltb (length part) 1 some in
-      let own-map = ap (λ o. not (has_map o map)) known ∙ ap not (eq-eqb map (kind_map kind) fits) in
+      let kind_byte = le-ltb (length part) 1 some in
+      let own_map = ap (λ o. not (has_map o map)) known ∙ ap not (eq-eqb map (kind_map kind) fits) in
       let fields = le-ltb (length part) (body_length map) (omega (arith, length-drop 1 part)) in
-      λ i. cond (not (stands i)) (Some UnknownKind) (cond (kind-byte i) (Some Cut) (cond (not (is_some (known i))) (Some UnknownKind) (cond (own-map i) (Some WrongMap) (cond (fields i) (Some Cut) None))))
+      λ i. cond (not (stands i)) (Some UnknownKind) (cond (kind_byte i) (Some Cut) (cond (not (is_some (known i))) (Some UnknownKind) (cond (own_map i) (Some WrongMap) (cond (fields i) (Some Cut) None))))
 
   pub read_as : record_of kind (fields_in map (drop 1 part)) ≡ body_in map part
   read_as = ap (λ o. record_of (unwrap_or o Opening) (fields_in map (drop 1 part))) (sym known)
@@ -39,6 +39,6 @@ whole now bytes {map} {part} r long m is read =
 -- a record without a fault has all of its bytes
 pub has_bytes : (bytes : List ℕ) → first_given (record_faults bytes) ≡ None → record_length bytes ≤ length bytes
 has_bytes bytes none =
-    let all-fail = subst (FirstDecides (record_faults bytes)) none (first_decides (record_faults bytes)) in
+    let all_fail = subst (FirstDecides (record_faults bytes)) none (first_decides (record_faults bytes)) in
     let c = true gives Cut in
-    omega (arith, ltb-false _ _ (all-fail 0 c (omega arith) (omega arith)), ltb-false _ _ (all-fail 5 c (omega arith) (omega arith)), length-drop 2 bytes)
+    omega (arith, ltb-false _ _ (all_fail 0 c (omega arith) (omega arith)), ltb-false _ _ (all_fail 5 c (omega arith) (omega arith)), length-drop 2 bytes)

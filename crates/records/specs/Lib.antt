@@ -1,3 +1,4 @@
 pub mod Faults
+pub mod Fields
 pub mod Kinds
 pub mod Records

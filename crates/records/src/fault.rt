@@ -1,9 +1,13 @@
-// What can be wrong with a record. A field's fault is turned into its record's.
+// What can be wrong with a field and with a record. A field's fault is turned into its record's.
 ghost use Rattle.std.specs.Prelude.{◌≡◌};
 ghost use Rattle.records.specs.Faults.{fault_number};
 ghost use Rattle.records.specs.declared.fault.RecordFault.TheVariants.{Cut};
 
-use fields::field::FieldFault;
+#[derive(Clone, Copy)]
+pub enum FieldFault {
+    // The bytes end before the field does.
+    Cut,
+}
 
 #[derive(Clone, Copy)]
 pub enum RecordFault {

@@ -2,5 +2,6 @@
 #![tactic(auto)]
 
 pub mod fault;
+pub mod field;
 pub mod kind;
 pub mod record;

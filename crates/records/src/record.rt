@@ -1,20 +1,18 @@
 // A record, and how it is read.
 ghost use Rattle.std.specs.Prelude.{◌≡◌, ◌<◌, ◌≤◌, length, drop, Some, None, MatchResult};
 ghost use Rattle.refusals.specs.Conditions.{first_given};
-ghost use Rattle.records.specs.Records.{OwnBytesDecide, body_faults, body_in, body_length, entry_kind, entry_of, fields_in, fields_length, letter_of, posting_kind, record_faults, record_in, record_length, record_of};
+ghost use Rattle.records.specs.Records.{OwnBytesDecide, body_faults, body_in, body_length, entry_kind, fields_in, fields_length, record_faults, record_in, record_length, record_of};
 
-use crate::fault::RecordFault;
+use crate::fault::{FieldFault, RecordFault};
+use crate::field::{Field, FieldName};
 use crate::kind::Kind;
-use fields::field::{Field, FieldFault, FieldName};
-use lodging::terms::LetterTerms;
-use months::terms::{BillTerms, ReceiptTerms};
-use postings::posting::Posting;
+use ledger::terms::LetterTerms;
 
 // What a record asks for.
 #[derive(Clone, Copy)]
 pub enum Entry {
     Opening { day: u16 },
-    Posting(Posting),
+    Lodge(LetterTerms),
 }
 
 #[derive(Clone, Copy)]
@@ -29,24 +27,8 @@ impl Entry {
     {
         match self {
             Entry::Opening { .. } => Kind::Opening,
-            Entry::Posting(posting) => posting_kind(posting),
+            Entry::Lodge(_) => Kind::Lodge,
         }
-    }
-}
-
-fn posting_kind(posting: Posting) -> Kind
-    ensures { result ≡ posting_kind posting }
-{
-    match posting {
-        Posting::Day { .. } => Kind::Day,
-        Posting::Grade { .. } => Kind::Grade,
-        Posting::Usage { .. } => Kind::Usage,
-        Posting::Lodge(_) => Kind::Lodge,
-        Posting::Return { .. } => Kind::Return,
-        Posting::Trade { .. } => Kind::Trade,
-        Posting::Deliver { .. } => Kind::Deliver,
-        Posting::Bill(_) => Kind::Bill,
-        Posting::Receipt(_) => Kind::Receipt,
     }
 }
 
@@ -89,8 +71,6 @@ pub struct Fields {
     pub day: u16,
     pub last_day: u16,
     pub month: u8,
-    pub payee: u16,
-    pub signed_sum: i64,
 }
 
 impl Fields {
@@ -98,49 +78,20 @@ impl Fields {
     fn record(self, kind: Kind) -> Record
         ensures { result ≡ record_of kind self }
     {
+        let entry = match kind {
+            Kind::Opening => Entry::Opening { day: self.day },
+            Kind::Lodge => Entry::Lodge(LetterTerms {
+                number: self.number,
+                kind: self.code,
+                sum: self.sum,
+                first_day: self.day,
+                last_day: self.last_day,
+                target_month: self.month,
+            }),
+        };
         Record {
             party: self.party,
-            entry: self.entry(kind),
-        }
-    }
-
-    fn entry(self, kind: Kind) -> Entry
-        ensures { result ≡ entry_of kind self }
-    {
-        match kind {
-            Kind::Opening => Entry::Opening { day: self.day },
-            Kind::Day => Entry::Posting(Posting::Day { day: self.day }),
-            Kind::Grade => Entry::Posting(Posting::Grade { code: self.code }),
-            Kind::Usage => Entry::Posting(Posting::Usage { volume: self.sum }),
-            Kind::Lodge => Entry::Posting(Posting::Lodge(self.letter())),
-            Kind::Return => Entry::Posting(Posting::Return {
-                number: self.number,
-            }),
-            Kind::Trade => Entry::Posting(Posting::Trade { volume: self.sum }),
-            Kind::Deliver => Entry::Posting(Posting::Deliver { volume: self.sum }),
-            Kind::Bill => Entry::Posting(Posting::Bill(BillTerms {
-                month: self.month,
-                code: self.code,
-                sum: self.signed_sum,
-            })),
-            Kind::Receipt => Entry::Posting(Posting::Receipt(ReceiptTerms {
-                month: self.month,
-                code: self.code,
-                sum: self.sum,
-            })),
-        }
-    }
-
-    fn letter(self) -> LetterTerms
-        ensures { result ≡ letter_of self }
-    {
-        LetterTerms {
-            number: self.number,
-            kind: self.code,
-            sum: self.sum,
-            first_day: self.day,
-            last_day: self.last_day,
-            target_month: self.month,
+            entry,
         }
     }
 }
@@ -156,8 +107,6 @@ fn read_fields(map: u16, part: &[u8]) -> Result<(Fields, &[u8]), FieldFault>
     let (day, part) = FieldName::Day.take(map, part)?;
     let (last_day, part) = FieldName::LastDay.take(map, part)?;
     let (month, part) = FieldName::Month.take(map, part)?;
-    let (payee, part) = FieldName::Payee.take(map, part)?;
-    let (signed_sum, part) = FieldName::SignedSum.take(map, part)?;
     let fields = Fields {
         party,
         number,
@@ -166,8 +115,6 @@ fn read_fields(map: u16, part: &[u8]) -> Result<(Fields, &[u8]), FieldFault>
         day,
         last_day,
         month,
-        payee,
-        signed_sum,
     };
     Ok((fields, part))
 }

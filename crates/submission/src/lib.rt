@@ -10,8 +10,7 @@ use batch::fault::BatchFault;
 use batch::run::run_batch;
 use draw_order::EarliestLastDay;
 use ledger::book::Book;
-use rating::guangxi::GuangxiTable;
-use rating::layers::ArrearsLayer;
+use rating::FlatZero;
 
 // A batch has at most so many bytes.
 pub const MOST_BYTES: usize = 16_384;
@@ -25,10 +24,7 @@ pub fn submit(batch: &[u8], book: &mut Book, answers: &mut [Answer]) -> Result<u
     if batch.len() > MOST_BYTES {
         return Err(BatchFault::TooLong);
     }
-    let rating = ArrearsLayer {
-        below: GuangxiTable,
-    };
-    run_batch(batch, book, answers, &rating, &EarliestLastDay)
+    run_batch(batch, book, answers, &FlatZero, &EarliestLastDay)
 }
 
 // How many records were answered: all, or those before the fault.

@@ -1,16 +1,14 @@
 // The opening of a book.
 ghost use Rattle.std.specs.Prelude.{◌≡◌};
 ghost use Rattle.ledger.specs.Opening.{empty_on, opening_conditions, opening_outcome};
-ghost use Rattle.postings.specs.Outcomes.{Settled, outcome_number, refusal_in};
-ghost use Rattle.refusals.specs.Conditions.{Checked, FirstDecides};
+ghost use Rattle.ledger.specs.Outcomes.{outcome_number, Checked, Settled};
 
 use crate::book::Book;
-use crate::figures::{CreditFigures, Figures};
+use crate::figures::Figures;
+use crate::outcome::Outcome;
+use crate::party::Party;
 use calendar::day::Day;
 use letters::table::LetterTable;
-use months::table::MonthTable;
-use postings::outcome::Outcome;
-use postings::party::Party;
 use rating::Grades;
 use refusals::Refusal;
 
@@ -22,15 +20,9 @@ impl Book {
         Book {
             figures: Figures {
                 today: 0,
-                opening_month: 0,
-                credit: CreditFigures {
-                    usage: 0,
-                    grades: Grades::NONE,
-                    arrears_day: None,
-                },
-                open_volume: 0,
+                usage: 0,
+                grades: Grades::NONE,
                 letters: LetterTable::empty(),
-                months: MonthTable::empty(),
             },
         }
     }
@@ -40,13 +32,11 @@ impl Book {
 pub fn open(book: &mut Book, party: u8, day: u16) -> u8
     ensures number { result ≡ outcome_number (opening_outcome party day) }
     ensures settled { Settled (opening_conditions party day) book.old.figures (empty_on day) (opening_outcome party day) book.new.figures }
-    ensures first { FirstDecides (opening_conditions party day) (refusal_in (opening_outcome party day)) }
 {
     match opening_day(party, day) {
         Ok(day) => {
             *book = Book::new();
             book.figures.today = day.number();
-            book.figures.opening_month = day.month().number();
             Outcome::Accepted.number()
         }
         Err(refusal) => Outcome::Refused(refusal).number(),

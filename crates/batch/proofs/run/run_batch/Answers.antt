@@ -34,7 +34,7 @@ returns-in_err-answer g c =
     let fault = MatchResult-at_err _ _ _ at.1 c.take_record.ensures.fault in
     let p = err_from_is_err_and c.from_residual.result c.from_residual.ensures.1 in
     leaves _ _ c.args.answers.now c.args.batch.now c.args.book.now.figures
-    (at_fault c.loop-place.invariant.1 (omega arith) more (ap (λ n. first_given (faults n rest)) (sym (number_of here)) ∙ fault))
+    (at_fault c.loop-place.invariant.1 (omega arith) more (ap (λ n. first_given (faults n f rest)) (sym (number_of here)) ∙ fault))
     (p.1 ∙ ap Err (p.2 ∙ ap AtRecord (at.2 ∙ ap (λ position. record { position = position; fault = at.0 }) here)))
     (set-get_or _ _ _)
     (MatchResult-at_err _ _ _ at.1 c.take_record.ensures.after)
@@ -51,7 +51,7 @@ loop-place-preserved g c =
     let ok = located_ok c.position-here.result c.take_record.result (sym c.locate.ensures ∙ c.in_ok-answer.was) in
     let taken = MatchResult-at_ok _ _ _ ok c.take_record.ensures.fault in (
       ap (λ n. n + 1) count,
-      one_more c.loop-place.invariant.1 (omega arith) more (ap (λ n. first_given (faults n rest)) (sym number) ∙ taken.0)
+      one_more c.loop-place.invariant.1 (omega arith) more (ap (λ n. first_given (faults n f rest)) (sym number) ∙ taken.0)
           (taken.1 ∙ ap (λ n. answer_to policy n f (record_in rest)) number)
           taken.2
           (MatchResult-at_ok _ _ _ ok c.take_record.ensures.after),

@@ -9,18 +9,18 @@ use Rattle.batch.proofs.run.take_record.Goals as goal
 pub returns-in_err-record : goal.returns-in_err-record
 returns-in_err-record g c =
     let bytes = c.args.part.now in
-    let turn = turn_faults c.args.number (record_in bytes) in
+    let turn = turn_faults c.args.number c.args.book.now.figures (record_in bytes) in
     let p = err_from_is_err_and c.from_residual.result c.from_residual.ensures.1 in
     rw (p.1, p.2) (record { fault = joined (record_faults bytes) turn ∙ ap (λ given. or_else given (first_given turn)) c.in_err-record.ensures.reads; after = refl })
 
 pub returns-in_err-answer : goal.returns-in_err-answer
 returns-in_err-answer g c =
     let bytes = c.args.part.now in
-    let turn = turn_faults c.args.number (record_in bytes) in
+    let turn = turn_faults c.args.number c.args.book.now.figures (record_in bytes) in
     let read = c.in_ok-record.ensures.reads in
     let posted = c.in_err-answer.ensures in
     let p = err_from_is_err_and c.from_residual-in_err-answer.result c.from_residual-in_err-answer.ensures.1 in
     rw (p.1, p.2) (record {
-      fault = joined (record_faults bytes) turn ∙ ap (λ given. or_else given (first_given turn)) read.0 ∙ ap (λ r. first_given (turn_faults c.args.number r)) (sym read.1) ∙ posted.fault;
+      fault = joined (record_faults bytes) turn ∙ ap (λ given. or_else given (first_given turn)) read.0 ∙ ap (λ r. first_given (turn_faults c.args.number c.args.book.now.figures r)) (sym read.1) ∙ posted.fault;
       after = posted.after;
     })

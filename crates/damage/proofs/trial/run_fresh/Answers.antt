@@ -1,8 +1,9 @@
 use Rattle.std.proofs.Common.{ltb, length, replicate, ap, ◌∙◌}
 use Rattle.batch.specs.Runs.{Run, answered_in, run}
+use Rattle.draw_order.specs.Orders.{earlier_last_day}
 use Rattle.ledger.specs.declared.figures.Figures.{Figures}
+use Rattle.rating.specs.Policies.{flat_zero}
 use Rattle.std.specs.Result.{result_err}
-use Rattle.submission.specs.Submitted.{house_order, house_rating}
 use Rattle.damage.proofs.Fresh.{when_weaker}
 use Rattle.damage.specs.Trials.{blank, letter_holds}
 use Rattle.damage.proofs.trial.run_fresh.Goals as goal
@@ -13,7 +14,7 @@ returns c =
     let answered = c.answered.ensures in
     let fault = c.err.ensures.value in
     let held = c.held_by.ensures in
-    let new = ap (λ (f : Figures). run house_rating house_order (replicate 8 blank) 0 0 batch f) c.new-book.ensures in
+    let new = ap (λ (f : Figures). run flat_zero earlier_last_day (replicate 8 blank) 0 0 batch f) c.new-book.ensures in
     when_weaker (ltb 16384 (length batch))
     (λ long. (answered ∙ ap answered_in long.0, fault ∙ ap result_err long.0, held ∙ ap (letter_holds 7) (long.2 ∙ c.new-book.ensures)))
     (λ ran.

@@ -1,7 +1,7 @@
 use Rattle.std.proofs.Common.{◌≡◌, ◌≤◌, length, drop, Some, sym, ap, ◌∙◌, subst, rules}
 use Rattle.std.proofs.lemmas.List.{drop-drop}
 use Rattle.records.proofs.Reading.{no_fault, read_as}
-use Rattle.fields.specs.Fields.{big_endian}
+use Rattle.records.specs.Fields.{big_endian}
 use Rattle.records.specs.Kinds.{kind_of}
 use Rattle.records.specs.Records.{fields_in, fields_length, record_of}
 use Rattle.records.proofs.record.read_body.Goals as goal

@@ -1,5 +1,5 @@
 use Rattle.std.proofs.Common.{arith, rules}
-use Rattle.fields.proofs.Bytes.{taken}
+use Rattle.records.proofs.Bytes.{taken}
 use Rattle.records.proofs.OwnBytes.{own_bytes_decide}
 use Rattle.records.proofs.Reading.{whole}
 use Rattle.records.proofs.record.read_record.Goals as goal
