@@ -15,16 +15,17 @@ ExactlyOneFirst before = (one other : LetterFacts) → (one.number ≢ other.num
 abbrev pub CarriesOver : Order → Type 0
 CarriesOver before = (one other third : LetterFacts) → before one other ≡ true → before other third ≡ true → before one third ≡ true
 
--- The earlier last day goes first, and with one last day the lower number.
-abbrev pub earlier_last_day : Order
-earlier_last_day one other = cond (one.last_day == other.last_day) (nat_lt one.number other.number) (nat_lt one.last_day other.last_day)
-
 -- The smaller figure goes first; between equal figures another order decides.
 abbrev pub smaller_first : (LetterFacts → ℕ) → Order → Order
 smaller_first figure tie one other = cond (figure one == figure other) (tie one other) (nat_lt (figure one) (figure other))
 
+-- The lower number goes first.
 abbrev pub lower_number : Order
 lower_number one other = nat_lt one.number other.number
+
+-- The earlier last day goes first, and with one last day the lower number.
+abbrev pub earlier_last_day : Order
+earlier_last_day = smaller_first (λ letter. letter.last_day) lower_number
 
 -- The smaller held sum goes first, and with equal sums the lower number.
 abbrev pub smaller_held : Order

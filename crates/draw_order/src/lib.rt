@@ -3,13 +3,16 @@
 
 pub mod orders;
 
-ghost use Rattle.std.specs.Prelude.{◌≡◌, ℕ, Bool, MatchOption, ◌≢◌};
+ghost use Rattle.std.specs.Prelude.{◌≡◌, ℕ, Bool, ◌≢◌};
 ghost use Rattle.draw_order.specs.Kinds.{insured, kind_code};
 ghost use Rattle.draw_order.specs.Orders.{Order, ExactlyOneFirst, CarriesOver, earlier_last_day};
-ghost use Rattle.draw_order.specs.declared.LetterKind.{LetterKind};
+ghost use Rattle.refusals.specs.Codes.{ReadsCode};
+ghost use Rattle.refusals.specs.declared.Refusal.TheVariants.{OutOfRange};
 ghost use Rattle.std.proofs.Common.{rules};
 
-#[derive(Clone, Copy)]
+use refusals::Refusal;
+
+#[derive(Clone, Copy, Debug, PartialEq, Eq)]
 pub enum LetterKind {
     // A bank letter for a single claim.
     BankSingle = 1,
@@ -19,18 +22,22 @@ pub enum LetterKind {
     InsuranceInParts = 3,
 }
 
-impl LetterKind {
-    pub fn from_code(code: u8) -> Option<LetterKind>
-        ensures { MatchOption result ((kind : LetterKind) → kind_code kind ≢ code) (λ kind. kind_code kind ≡ code) }
-    {
+impl TryFrom<u8> for LetterKind {
+    type Error = Refusal;
+
+    ghost try_from_gives = { ReadsCode kind_code OutOfRange };
+
+    fn try_from(code: u8) -> Result<LetterKind, Refusal> {
         match code {
-            1 => Some(LetterKind::BankSingle),
-            2 => Some(LetterKind::BankInParts),
-            3 => Some(LetterKind::InsuranceInParts),
-            _ => None,
+            1 => Ok(LetterKind::BankSingle),
+            2 => Ok(LetterKind::BankInParts),
+            3 => Ok(LetterKind::InsuranceInParts),
+            _ => Err(Refusal::OutOfRange),
         }
     }
+}
 
+impl LetterKind {
     pub fn is_insurance(self) -> bool
         ensures { result ≡ insured self }
     {
@@ -42,7 +49,7 @@ impl LetterKind {
 }
 
 // All that an order may look at in a letter.
-#[derive(Clone, Copy)]
+#[derive(Clone, Copy, Debug, PartialEq, Eq)]
 pub struct LetterFacts {
     pub number: u16,
     pub kind: LetterKind,
@@ -64,7 +71,7 @@ pub trait DrawOrder {
 }
 
 // The letter that ends first goes first, and of two that end on one day the one with the lower number.
-#[derive(Clone, Copy)]
+#[derive(Clone, Copy, Debug, PartialEq, Eq)]
 pub struct EarliestLastDay;
 
 impl DrawOrder for EarliestLastDay {
@@ -75,10 +82,6 @@ impl DrawOrder for EarliestLastDay {
     ghost carries = { Prim.search rules };
 
     fn goes_before(&self, one: &LetterFacts, other: &LetterFacts) -> bool {
-        if one.last_day == other.last_day {
-            one.number < other.number
-        } else {
-            one.last_day < other.last_day
-        }
+        (one.last_day, one.number) < (other.last_day, other.number)
     }
 }

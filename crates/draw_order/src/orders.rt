@@ -5,7 +5,7 @@ ghost use Rattle.std.proofs.Common.{rules};
 use crate::{DrawOrder, LetterFacts};
 
 // The letter that holds least goes first, and of two that hold as much the one with the lower number.
-#[derive(Clone, Copy)]
+#[derive(Clone, Copy, Debug, PartialEq, Eq)]
 pub struct SmallestHeld;
 
 impl DrawOrder for SmallestHeld {
@@ -16,16 +16,12 @@ impl DrawOrder for SmallestHeld {
     ghost carries = { Prim.search rules };
 
     fn goes_before(&self, one: &LetterFacts, other: &LetterFacts) -> bool {
-        if one.held == other.held {
-            one.number < other.number
-        } else {
-            one.held < other.held
-        }
+        (one.held, one.number) < (other.held, other.number)
     }
 }
 
 // Insurance policies go before bank letters. The order below decides between two of the same class.
-#[derive(Drop)]
+#[derive(Debug, Drop, PartialEq, Eq)]
 pub struct InsuranceFirst<O> {
     pub below: O,
 }
