@@ -2,12 +2,12 @@
 ghost use Rattle.std.specs.Prelude.{◌≡◌, ℕ, ◌<◌, ◌≤◌, MatchOption};
 ghost use Rattle.calendar.specs.Calendar.{InMonth, month_of};
 
-use crate::month::{Month, start};
+use crate::month::{LAST_MONTH, Month, start};
 
 // The last day that has a number.
 const LAST_DAY: u16 = 7304;
 
-#[derive(Clone, Copy)]
+#[derive(Clone, Copy, Debug, PartialEq, Eq, PartialOrd, Ord)]
 pub struct Day {
     pub(crate) number: u16,
     ghost within: { number ≤ 7304 },
@@ -36,12 +36,12 @@ impl Day {
         ensures alone { (m : ℕ) → InMonth self.number m → m ≡ result.number }
     {
         // No month has more than 31 days, so the day's month is not before this one.
-        let mut month = self.number / 31;
-        while start(month + 1) <= self.number {
-            month += 1;
+        let earliest = (self.number / 31) as u8;
+        for month in earliest..LAST_MONTH {
+            if self.number < start(month + 1) {
+                return Month { number: month };
+            }
         }
-        Month {
-            number: month as u8,
-        }
+        Month { number: LAST_MONTH }
     }
 }

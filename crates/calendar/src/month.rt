@@ -5,12 +5,12 @@ ghost use Rattle.calendar.specs.Calendar.{first_day_of, last_day_of};
 use crate::day::Day;
 
 // The last month that has a number.
-const LAST_MONTH: u8 = 239;
+pub(crate) const LAST_MONTH: u8 = 239;
 
 // How many days of a common year come before each of its months.
 const DAYS_BEFORE: [u16; 12] = [0, 31, 59, 90, 120, 151, 181, 212, 243, 273, 304, 334];
 
-#[derive(Clone, Copy)]
+#[derive(Clone, Copy, Debug, PartialEq, Eq, PartialOrd, Ord)]
 pub struct Month {
     pub(crate) number: u8,
     ghost within: { number ≤ 239 },
@@ -43,7 +43,7 @@ impl Month {
         ensures { result.number ≡ first_day_of self.number }
     {
         Day {
-            number: start(self.number as u16),
+            number: start(self.number),
         }
     }
 
@@ -51,20 +51,20 @@ impl Month {
         ensures { result.number ≡ last_day_of self.number }
     {
         Day {
-            number: start(self.number as u16 + 1) - 1,
+            number: start(self.number + 1) - 1,
         }
     }
 }
 
 // The first day of a month, one past the last month included.
-pub(crate) fn start(month: u16) -> u16
+pub(crate) fn start(month: u8) -> u16
     requires { month ≤ 240 }
     ensures { result ≡ first_day_of month }
 {
-    let year = month / 12;
-    let of_year = month % 12;
+    let year = u16::from(month / 12);
+    let of_year = usize::from(month % 12);
     // 2024 is a leap year, and so is each fourth year after it.
     let leap_days_before = (year + 3) / 4;
-    let leap_day = if year % 4 == 0 && of_year > 1 { 1 } else { 0 };
-    365 * year + leap_days_before + leap_day + DAYS_BEFORE[of_year as usize]
+    let leap_day = u16::from(year % 4 == 0 && of_year > 1);
+    365 * year + leap_days_before + leap_day + DAYS_BEFORE[of_year]
 }

@@ -1,17 +1,18 @@
-use Rattle.std.proofs.Common.{◌+◌, ◌/◌, ◌≤◌, arith}
-use Rattle.calendar.proofs.Starts.{at_most_31_each, numbered, alone, month_is}
+use Rattle.std.proofs.Common.{◌≡◌, ◌/◌, ap, arith}
+use Rattle.calendar.proofs.Starts.{after_last, alone, at_most_31_each, month_is}
 use Rattle.calendar.specs.Calendar.{first_day_of, InMonth}
 use Rattle.calendar.proofs.day.Day.month.Goals as goal
 
-pub loop-self-init : goal.loop-self-init
-loop-self-init c = omega (arith, at_most_31_each (c.args.self.number / 31))
+pub loop-month-init : goal.loop-month-init
+loop-month-init c = omega (arith, at_most_31_each (c.args.self.number / 31))
 
-pub loop-self-preserved : goal.loop-self-preserved
-loop-self-preserved c =
-    let started : first_day_of (c.loop-self.month + 1) ≤ c.args.self.number = omega arith in
-    (numbered _ _ started c.args.self.within, started)
+pub returns-then-self-start : goal.returns-then-self-start
+returns-then-self-start c =
+    let here : InMonth c.args.self.number c.loop-month.month = omega arith in
+    record { value = month_is _ _ here; encloses = here; alone = λ m there. alone _ m _ there here }
 
 pub returns : goal.returns
 returns c =
-    let here : InMonth c.args.self.number c.loop-self.month = omega arith in
+    let last : c.loop-month.month ≡ 239 = omega arith in
+    let here : InMonth c.args.self.number 239 = omega (arith, ap first_day_of last, after_last) in
     record { value = month_is _ _ here; encloses = here; alone = λ m there. alone _ m _ there here }
