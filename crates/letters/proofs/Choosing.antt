@@ -3,9 +3,9 @@ use Rattle.std.proofs.Common.{◌≡◌, ℕ, zero, suc, ◌+◌, ◌<◌, Bool,
 use Rattle.draw_order.specs.Orders.{CarriesOver, ExactlyOneFirst, Order}
 use Rattle.draw_order.specs.declared.LetterFacts.{LetterFacts}
 use Rattle.std.proofs.lemmas.Bool.{and_from, and_left, and_parts, both_ways, cases_Bool, cases_eq, cases_lt, cond_both, eq-eqb, eqb-true, not_from_false, not_from_true, or_cases, or_from, or_left, or_parts, or_right}
-use Rattle.tables.proofs.Kept.{every_row_at}
-use Rattle.tables.proofs.Places.{every_row_from, no_row_from, only_place, some_row_at}
-use Rattle.tables.specs.Rows.{first_place, some_row}
+use Rattle.std.proofs.lemmas.List.Folds.{list_any_at}
+use Rattle.std.specs.List.{list_any, position_or_len}
+use Rattle.letters.proofs.Rows.{every_row_at, every_row_from, no_row_from, only_place}
 use Rattle.letters.specs.Choosing.{FirstUsable, OnlyFirstUsable, facts, goes_first, usable}
 use Rattle.letters.specs.Letters.{booked, distinct_numbers, no_letter, numbered}
 use Rattle.letters.specs.declared.letter.Letter.{Letter}
@@ -21,7 +21,7 @@ different (row ∷ rows) distinct (suc i) zero h within one other same = absurd 
 different (row ∷ rows) distinct (suc i) (suc j) h within one other same = different rows (and_parts _ _ distinct).1 i j (omega arith) (omega arith) one other same
 different (row ∷ rows) distinct zero (suc j) h within one other same = ⊎_elim
     (λ empty. both_ways _ (ap not one) empty)
-    (λ absent. both_ways _ (ap not (some_row_at (numbered row.number) no_letter rows j (omega arith) (and_from _ _ other (eq-eqb _ _ (sym same))))) absent)
+    (λ absent. both_ways _ (ap not (list_any_at (numbered row.number) rows j no_letter (omega arith) (and_from _ _ other (eq-eqb _ _ (sym same))))) absent)
     (or_cases _ _ (and_parts _ _ distinct).0)
 
 usable_is_booked : (day : ℕ) (row : Letter) → usable day row ≡ true → booked row ≡ true
@@ -104,8 +104,8 @@ module _ (before : Order) (day : ℕ) (rows : List Letter) where
         (λ loses. (is, stays c.index (ap (before (facts (at i))) (sym is) ∙ loses) lead))
 
   module _ (i : ℕ) (end : i ≡ length rows) where
-    pub some_found : (first : Option Candidate) → Leads i first → MatchOption first (some_row (usable day) rows ≡ false) (λ c. (c.index < length rows) × (usable day (at c.index) ≡ true))
-    some_found None none = no_row_from (usable day) no_letter rows (λ other h. none other (omega (arith, end)))
+    pub some_found : (first : Option Candidate) → Leads i first → MatchOption first (list_any (usable day) rows ≡ false) (λ c. (c.index < length rows) × (usable day (at c.index) ≡ true))
+    some_found None none = no_row_from (usable day) rows (λ other h. none other (omega (arith, end)))
     some_found (Some c) (is, lead) = (omega (arith, end, lead.in_front), lead.is_usable)
 
     pub first_found : (first : Option Candidate) → Leads i first → distinct_numbers rows ≡ true → IfSome first (λ c. FirstUsable before day rows c.index)
@@ -146,7 +146,7 @@ module _ (before : Order) (one_first : ExactlyOneFirst before) (day : ℕ) (rows
   beaten_by first other = not (usable day other) || eqb other.number first.number || before (facts first) (facts other)
 
   test_passes : (place : ℕ) → FirstUsable before day rows place → goes_first before day rows (row place) ≡ true
-  test_passes place first = and_from _ _ first.is_usable (every_row_from (beaten_by (row place)) no_letter rows (λ other h. beaten other h (cases_Bool (usable day (row other))) (cases_eq other place)))
+  test_passes place first = and_from _ _ first.is_usable (every_row_from (beaten_by (row place)) rows (λ other h. beaten other h (cases_Bool (usable day (row other))) (cases_eq other place)))
     where
       beaten : (other : ℕ) → other < length rows → (usable day (row other) ≡ true) ⊎ (usable day (row other) ≡ false) → (other ≡ place) ⊎ (other ≡ place → ⊥) → beaten_by (row place) (row other) ≡ true
       beaten other h (inr not_usable) which = or_left _ _ (or_left _ _ (not_from_false _ not_usable))
@@ -156,7 +156,7 @@ module _ (before : Order) (one_first : ExactlyOneFirst before) (day : ℕ) (rows
   passes_alone : (place : ℕ) → FirstUsable before day rows place → (other : ℕ) → other < length rows → goes_first before day rows (row other) ≡ true → other ≡ place
   passes_alone place first other h passes =
       let parts = and_parts _ _ passes in
-      let beaten = every_row_at (beaten_by (row other)) rows place no_letter refl parts.1 in
+      let beaten = every_row_at (beaten_by (row other)) rows place first.within parts.1 in
       same_place other place h first.within parts.0 first.is_usable
       (λ not_same. ⊎_elim
       (λ either. ⊎_elim
@@ -167,13 +167,13 @@ module _ (before : Order) (one_first : ExactlyOneFirst before) (day : ℕ) (rows
       (or_cases _ _ beaten))
       (first.before_others other h parts.0)
 
-  pub found_first : (place : ℕ) → FirstUsable before day rows place → (some_row (goes_first before day rows) rows ≡ true) × (place ≡ first_place (goes_first before day rows) rows)
+  pub found_first : (place : ℕ) → FirstUsable before day rows place → (list_any (goes_first before day rows) rows ≡ true) × (place ≡ position_or_len (goes_first before day rows) rows)
   found_first place first = (
-    some_row_at (goes_first before day rows) no_letter rows place first.within (test_passes place first),
-    only_place (goes_first before day rows) no_letter rows place first.within (test_passes place first) (passes_alone place first),
+    list_any_at (goes_first before day rows) rows place no_letter first.within (test_passes place first),
+    only_place (goes_first before day rows) rows place first.within (test_passes place first) (passes_alone place first),
   )
 
 -- where none is usable none goes first
-pub none_goes_first : (before : Order) (day : ℕ) (all rows : List Letter) → some_row (usable day) rows ≡ false → some_row (goes_first before day all) rows ≡ false
+pub none_goes_first : (before : Order) (day : ℕ) (all rows : List Letter) → list_any (usable day) rows ≡ false → list_any (goes_first before day all) rows ≡ false
 none_goes_first before day all [] none = refl
 none_goes_first before day all (row ∷ rows) none = let parts = or_parts _ _ none in or_from _ _ (and_left _ _ parts.0) (none_goes_first before day all rows parts.1)

@@ -1,8 +1,8 @@
 -- Which letter is claimed on first.
 use Rattle.std.specs.Prelude.{◌≡◌, ℕ, ◌<◌, Bool, true, not, ◌&&◌, ◌||◌, List, length, ◌==◌, ◌≢◌, nat_lt, slice_index_or}
+use Rattle.std.specs.List.{list_all}
 use Rattle.draw_order.specs.Orders.{Order}
 use Rattle.draw_order.specs.declared.LetterFacts.{LetterFacts}
-use Rattle.tables.specs.Rows.{every_row}
 use Rattle.letters.specs.Letters.{includes, no_letter, original_in}
 use Rattle.letters.specs.declared.letter.Letter.{Letter}
 
@@ -16,7 +16,7 @@ facts row = record { number = row.number; kind = row.kind; first_day = row.first
 
 -- The row's letter is usable, and the order puts it before every usable letter with another number.
 abbrev pub goes_first : Order → ℕ → List Letter → Letter → Bool
-goes_first before day rows row = usable day row && every_row (λ other. not (usable day other) || other.number == row.number || before (facts row) (facts other)) rows
+goes_first before day rows row = usable day row && list_all (λ other. not (usable day other) || other.number == row.number || before (facts row) (facts other)) rows
 
 -- In other words: at this place is a usable letter that the order puts before the usable letter at every other place.
 pub record FirstUsable (before : Order) (day : ℕ) (rows : List Letter) (place : ℕ) : Type 0 where

@@ -1,7 +1,7 @@
 -- The rows of the table of letters, and what the rules read off them.
-use Rattle.std.specs.Prelude.{ℕ, ◌+◌, Bool, true, false, cond, not, ◌&&◌, ◌||◌, List, [], ◌∷◌, sum_by, ◌==◌, nat_le, slice_index_or}
+use Rattle.std.specs.Prelude.{◌≡◌, ℕ, ◌+◌, Bool, true, false, not, ◌&&◌, ◌||◌, List, [], ◌∷◌, filter, sum_by, Option, MatchOption, ◌==◌, nat_le, slice_index_or}
+use Rattle.std.specs.List.{list_any, position_or_len}
 use Rattle.draw_order.specs.declared.LetterKind.TheVariants.{BankSingle}
-use Rattle.tables.specs.Rows.{first_place, some_row}
 use Rattle.letters.specs.declared.letter.Letter.{Letter}
 use Rattle.letters.specs.declared.letter.Standing.TheVariants.{Free, In, Out, Ended}
 
@@ -44,16 +44,20 @@ balanced row = row.lodged == row.drawn + row.returned + row.lapsed + row.held
 abbrev pub sound_row : Letter → Bool
 sound_row row = balanced row && (booked row || row.held == 0)
 
+-- What a search of the rows answers: the place of the first row that passes a test, nothing where none does.
+abbrev pub FindsFirst : {Place : Type 0} → (Letter → Bool) → List Letter → (Place → ℕ) → Option Place → Type 0
+FindsFirst passes rows index found = MatchOption found (list_any passes rows ≡ false) (λ place. (list_any passes rows ≡ true) × (index place ≡ position_or_len passes rows))
+
 -- The row has the letter with this number.
 abbrev pub numbered : ℕ → Letter → Bool
 numbered number row = booked row && row.number == number
 
 -- Whether the table has the letter with this number, and its row.
 abbrev pub has_letter : ℕ → List Letter → Bool
-has_letter number rows = some_row (numbered number) rows
+has_letter number rows = list_any (numbered number) rows
 
 abbrev pub letter_row : ℕ → List Letter → Letter
-letter_row number rows = slice_index_or rows (first_place (numbered number) rows) no_letter
+letter_row number rows = slice_index_or rows (position_or_len (numbered number) rows) no_letter
 
 -- No two letters of the table have one number.
 abbrev pub distinct_numbers : List Letter → Bool
@@ -70,7 +74,7 @@ held_total rows = sum_by (λ row. row.held) rows
 
 -- The held sums of the letters whose days include this day.
 abbrev pub held_on : ℕ → List Letter → ℕ
-held_on day rows = sum_by (λ row. cond (includes day row) row.held 0) rows
+held_on day rows = held_total (filter (includes day) rows)
 
 -- A letter that starts on this day may follow the row's: it starts no later than the day after that one's last.
 abbrev pub followed_by : ℕ → Letter → Bool
@@ -78,4 +82,4 @@ followed_by first_day row = booked row && nat_le first_day (row.last_day + 1)
 
 -- A letter may start no later than its target month does, or than some booked letter allows that it follows.
 abbrev pub starts_in_time : ℕ → ℕ → List Letter → Bool
-starts_in_time first_day target_start rows = nat_le first_day target_start || some_row (followed_by first_day) rows
+starts_in_time first_day target_start rows = nat_le first_day target_start || list_any (followed_by first_day) rows

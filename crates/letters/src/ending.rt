@@ -1,36 +1,36 @@
 // How a letter ends. Its sums are made from its row, changed, and written back with the whole row.
-ghost use Rattle.std.specs.Prelude.{◌≡◌, false, MatchOption};
+ghost use Rattle.std.specs.Prelude.{◌≡◌, false, MatchResult};
 ghost use Rattle.letters.specs.Letters.{balanced};
 ghost use Rattle.letters.specs.Sums.{after_day, given_back, lapsed_away};
 
 use crate::letter::{Letter, Standing};
-use crate::sums::LetterSums;
+use crate::sums::{LetterSums, Unbalanced};
 
 impl Letter {
     // The row after the letter was given back, if the row is in balance.
-    pub fn given_back(&self) -> Option<Letter>
-        ensures { MatchOption result (balanced self.now ≡ false) (λ after. after ≡ given_back self.now) }
+    pub fn given_back(&self) -> Result<Letter, Unbalanced>
+        ensures { MatchResult result (λ after. after ≡ given_back self.now) (λ _. balanced self.now ≡ false) }
     {
-        let sums = LetterSums::of(self)?;
-        Some(sums.give_back().written_to(self.ended()))
+        let sums = LetterSums::try_from(self)?;
+        Ok(sums.give_back().written_to(self.ended()))
     }
 
     // The row after the letter has lapsed, if the row is in balance.
-    pub fn lapsed_away(&self) -> Option<Letter>
-        ensures { MatchOption result (balanced self.now ≡ false) (λ after. after ≡ lapsed_away self.now) }
+    pub fn lapsed_away(&self) -> Result<Letter, Unbalanced>
+        ensures { MatchResult result (λ after. after ≡ lapsed_away self.now) (λ _. balanced self.now ≡ false) }
     {
-        let sums = LetterSums::of(self)?;
-        Some(sums.lapse().written_to(self.ended()))
+        let sums = LetterSums::try_from(self)?;
+        Ok(sums.lapse().written_to(self.ended()))
     }
 
     // The row when this day has come, if it was in balance.
-    pub fn after_day(&self, day: u16) -> Option<Letter>
-        ensures { MatchOption result (balanced self.now ≡ false) (λ after. after ≡ after_day day self.now) }
+    pub fn after_day(&self, day: u16) -> Result<Letter, Unbalanced>
+        ensures { MatchResult result (λ after. after ≡ after_day day self.now) (λ _. balanced self.now ≡ false) }
     {
         if self.is_in() && self.last_day < day {
             self.lapsed_away()
         } else {
-            Some(*self)
+            Ok(*self)
         }
     }
 

@@ -1,11 +1,11 @@
 // A row of the table of letters. Rows are plain figures: what always holds of them is stated where the table stands.
 ghost use Rattle.std.specs.Prelude.{◌≡◌};
 ghost use Rattle.letters.specs.Choosing.{facts, usable};
-ghost use Rattle.letters.specs.Letters.{booked, includes, original_in, original_out};
+ghost use Rattle.letters.specs.Letters.{booked, followed_by, includes, original_in, original_out};
 
 use draw_order::{LetterFacts, LetterKind};
 
-#[derive(Clone, Copy)]
+#[derive(Clone, Copy, Debug, PartialEq, Eq)]
 pub enum Standing {
     // The row has no letter.
     Free,
@@ -17,7 +17,7 @@ pub enum Standing {
     Ended,
 }
 
-#[derive(Clone, Copy)]
+#[derive(Clone, Copy, Debug, PartialEq, Eq)]
 pub struct Letter {
     pub number: u16,
     pub kind: LetterKind,
@@ -49,10 +49,7 @@ impl Letter {
     pub fn is_booked(&self) -> bool
         ensures { result ≡ booked self.now }
     {
-        match self.standing {
-            Standing::Free => false,
-            Standing::In | Standing::Out { .. } | Standing::Ended => true,
-        }
+        !matches!(self.standing, Standing::Free)
     }
 
     // Whether the letter's days include a day.
@@ -60,6 +57,13 @@ impl Letter {
         ensures { result ≡ includes day self.now }
     {
         self.first_day <= day && day <= self.last_day
+    }
+
+    // Whether a letter that starts on this day may follow the row's letter.
+    pub(crate) fn can_precede(&self, first_day: u16) -> bool
+        ensures { result ≡ followed_by first_day self.now }
+    {
+        self.is_booked() && u32::from(first_day) <= u32::from(self.last_day) + 1
     }
 
     // Whether the letter can be claimed on.
@@ -73,32 +77,28 @@ impl Letter {
     pub fn is_in(&self) -> bool
         ensures { result ≡ original_in self.now }
     {
-        match self.standing {
-            Standing::In => true,
-            Standing::Free | Standing::Out { .. } | Standing::Ended => false,
-        }
+        matches!(self.standing, Standing::In)
     }
 
     // Whether the original is with the issuer.
     pub fn is_out(&self) -> bool
         ensures { result ≡ original_out self.now }
     {
-        match self.standing {
-            Standing::Out { .. } => true,
-            Standing::Free | Standing::In | Standing::Ended => false,
-        }
+        matches!(self.standing, Standing::Out { .. })
     }
+}
 
-    // What an order knows of the letter.
-    pub fn facts(&self) -> LetterFacts
-        ensures { result ≡ facts self.now }
-    {
+// What an order knows of a letter.
+impl From<&Letter> for LetterFacts {
+    ghost from_gives = { λ row known. known ≡ facts row.now };
+
+    fn from(row: &Letter) -> LetterFacts {
         LetterFacts {
-            number: self.number,
-            kind: self.kind,
-            first_day: self.first_day,
-            last_day: self.last_day,
-            held: self.held,
+            number: row.number,
+            kind: row.kind,
+            first_day: row.first_day,
+            last_day: row.last_day,
+            held: row.held,
         }
     }
 }

@@ -1,12 +1,12 @@
 // The sums of one letter. Their type carries the equation that they keep: what was lodged was drawn, given back, or has
 // lapsed, or is held. They are made from a row, changed by value and written back with the whole row.
-ghost use Rattle.std.specs.Prelude.{◌≡◌, ◌+◌, false, MatchOption};
+ghost use Rattle.std.specs.Prelude.{◌≡◌, ◌+◌, false, MatchResult};
 ghost use Rattle.letters.specs.Letters.{balanced};
 ghost use Rattle.letters.specs.Sums.{with_sums};
 
 use crate::letter::Letter;
 
-#[derive(Clone, Copy)]
+#[derive(Clone, Copy, Debug, PartialEq, Eq)]
 pub struct LetterSums {
     lodged: u32,
     drawn: u32,
@@ -14,6 +14,31 @@ pub struct LetterSums {
     lapsed: u32,
     held: u32,
     ghost equation: { lodged ≡ drawn + returned + lapsed + held },
+}
+
+// A row's sums do not keep the equation.
+#[derive(Clone, Copy, Debug, PartialEq, Eq)]
+pub struct Unbalanced;
+
+// The sums of a row, if they keep the equation. Written back they give the row again.
+impl TryFrom<&Letter> for LetterSums {
+    type Error = Unbalanced;
+
+    ghost try_from_gives = { λ row r. MatchResult r (λ s. with_sums row.now s.lodged s.drawn s.returned s.lapsed s.held ≡ row.now) (λ _. balanced row.now ≡ false) };
+
+    fn try_from(row: &Letter) -> Result<LetterSums, Unbalanced> {
+        let gone = u64::from(row.drawn) + u64::from(row.returned) + u64::from(row.lapsed);
+        if gone + u64::from(row.held) != u64::from(row.lodged) {
+            return Err(Unbalanced);
+        }
+        Ok(LetterSums {
+            lodged: row.lodged,
+            drawn: row.drawn,
+            returned: row.returned,
+            lapsed: row.lapsed,
+            held: row.held,
+        })
+    }
 }
 
 impl LetterSums {
@@ -28,23 +53,6 @@ impl LetterSums {
             lapsed: 0,
             held: sum,
         }
-    }
-
-    // The sums of a row, if they keep the equation. Written back they give the row again.
-    pub fn of(row: &Letter) -> Option<LetterSums>
-        ensures { MatchOption result (balanced row.now ≡ false) (λ s. with_sums row.now s.lodged s.drawn s.returned s.lapsed s.held ≡ row.now) }
-    {
-        let gone = row.drawn as u64 + row.returned as u64 + row.lapsed as u64;
-        if gone + row.held as u64 != row.lodged as u64 {
-            return None;
-        }
-        Some(LetterSums {
-            lodged: row.lodged,
-            drawn: row.drawn,
-            returned: row.returned,
-            lapsed: row.lapsed,
-            held: row.held,
-        })
     }
 
     // What is held is given back.

@@ -1,11 +1,9 @@
 // The table of letters: 24 rows, each free or with a letter.
-ghost use Rattle.std.specs.Prelude.{◌≡◌, ◌<◌, replicate, if◌then◌else◌, slice_index_or, slice_set};
-ghost use Rattle.tables.specs.Rows.{FindsFirst};
-ghost use Rattle.letters.specs.Letters.{booked, numbered, includes, free, held_total, held_on, followed_by, starts_in_time, no_letter};
+ghost use Rattle.std.specs.Prelude.{◌≡◌, ◌<◌, position, replicate, slice_index_or, slice_set};
+ghost use Rattle.std.specs.List.{list_any};
+ghost use Rattle.letters.specs.Letters.{FindsFirst, numbered, followed_by, free, held_total, held_on, starts_in_time, no_letter};
 
-use crate::letter::{Letter, Standing};
-use draw_order::LetterKind;
-use tables::{RowAmount, RowTest, first_place, total};
+use crate::letter::Letter;
 
 mod choosing;
 mod days;
@@ -24,70 +22,6 @@ pub struct LetterTable {
     rows: [Letter; PLACES],
 }
 
-// Whether a row has the letter with this number.
-#[derive(Drop)]
-struct Numbered(u16);
-
-impl RowTest<Letter> for Numbered {
-    ghost passes = { λ q. numbered q.0 };
-
-    fn test(&self, row: &Letter) -> bool {
-        row.is_booked() && row.number == self.0
-    }
-}
-
-// Whether a row is free.
-#[derive(Drop)]
-struct IsFree;
-
-impl RowTest<Letter> for IsFree {
-    ghost passes = { λ _. free };
-
-    fn test(&self, row: &Letter) -> bool {
-        !row.is_booked()
-    }
-}
-
-// Whether a letter that starts on this day may follow the row's letter.
-#[derive(Drop)]
-struct CanBeFollowed(u16);
-
-impl RowTest<Letter> for CanBeFollowed {
-    ghost passes = { λ q. followed_by q.0 };
-
-    fn test(&self, row: &Letter) -> bool {
-        row.is_booked() && self.0 as u32 <= row.last_day as u32 + 1
-    }
-}
-
-// What a letter holds.
-#[derive(Drop)]
-struct Held;
-
-impl RowAmount<Letter> for Held {
-    ghost adds = { λ _ row. row.held };
-
-    fn amount(&self, row: &Letter) -> u64 {
-        row.held as u64
-    }
-}
-
-// What a letter holds, if its days include a day.
-#[derive(Drop)]
-struct HeldOn(u16);
-
-impl RowAmount<Letter> for HeldOn {
-    ghost adds = { λ q row. (if includes q.0 row then row.held else 0) };
-
-    fn amount(&self, row: &Letter) -> u64 {
-        if row.includes(self.0) {
-            row.held as u64
-        } else {
-            0
-        }
-    }
-}
-
 impl LetterTable {
     pub fn empty() -> LetterTable
         ensures { result.rows ≡ replicate 24 no_letter }
@@ -104,33 +38,49 @@ impl LetterTable {
     }
 
     // Where the letter with this number stands.
+    #[tactic(auto, using(crate::proofs::Rows::found, crate::proofs::Rows::absent))]
     pub fn find(&self, number: u16) -> Option<Place>
         ensures { FindsFirst (numbered number) self.now.rows (λ p. p.index) result }
     {
-        self.first(&Numbered(number))
+        let index = self.index_of(number)?;
+        Some(Place { index })
+    }
+
+    fn index_of(&self, number: u16) -> Option<usize>
+        ensures { result ≡ position (numbered number) self.now.rows }
+    {
+        self.rows
+            .iter()
+            .position(|row| row.is_booked() && row.number == number)
     }
 
     // The first free place.
+    #[tactic(auto, using(crate::proofs::Rows::found, crate::proofs::Rows::absent))]
     pub fn free_place(&self) -> Option<Place>
         ensures { FindsFirst free self.now.rows (λ p. p.index) result }
     {
-        self.first(&IsFree)
+        let index = self.free_index()?;
+        Some(Place { index })
+    }
+
+    fn free_index(&self) -> Option<usize>
+        ensures { result ≡ position free self.now.rows }
+    {
+        self.rows.iter().position(|row| !row.is_booked())
     }
 
     // Whether a letter may start on this day, its target month starting on that one.
     pub fn starts_in_time(&self, first_day: u16, target_start: u16) -> bool
         ensures { result ≡ starts_in_time first_day target_start self.now.rows }
     {
-        first_day <= target_start || self.first(&CanBeFollowed(first_day)).is_some()
+        first_day <= target_start || self.can_follow(first_day)
     }
 
-    fn first<Q: RowTest<Letter>>(&self, question: &Q) -> Option<Place>
-        ensures { FindsFirst (Q.passes question.now) self.now.rows (λ p. p.index) result }
+    // Whether a letter that starts on this day may follow one of the table.
+    fn can_follow(&self, first_day: u16) -> bool
+        ensures { result ≡ list_any (followed_by first_day) self.now.rows }
     {
-        match first_place(&self.rows, question) {
-            Some(index) => Some(Place { index }),
-            None => None,
-        }
+        self.rows.iter().any(|row| row.can_precede(first_day))
     }
 
     pub fn row(&self, place: Place) -> Letter
@@ -149,13 +99,17 @@ impl LetterTable {
     pub fn held(&self) -> u128
         ensures { result ≡ held_total self.now.rows }
     {
-        total(&self.rows, &Held)
+        self.rows.iter().map(|row| u128::from(row.held)).sum()
     }
 
     // The held sums of the letters whose days include a day.
     pub fn held_on(&self, day: u16) -> u128
         ensures { result ≡ held_on day self.now.rows }
     {
-        total(&self.rows, &HeldOn(day))
+        self.rows
+            .iter()
+            .filter(|row| row.includes(day))
+            .map(|row| u128::from(row.held))
+            .sum()
     }
 }

@@ -1,8 +1,8 @@
 // Which letter is claimed on first: the usable one that the order puts before every other.
 ghost use Rattle.std.specs.Prelude.{◌≡◌, ◌<◌, true, false, length, IfSome, if◌then◌else◌, Some, None, MatchOption, slice_index_or};
-ghost use Rattle.tables.specs.Rows.{FindsFirst, some_row};
+ghost use Rattle.std.specs.List.{list_any};
 ghost use Rattle.letters.specs.Choosing.{FirstUsable, OnlyFirstUsable, goes_first, usable};
-ghost use Rattle.letters.specs.Letters.{distinct_numbers, no_letter};
+ghost use Rattle.letters.specs.Letters.{FindsFirst, distinct_numbers, no_letter};
 
 use crate::letter::Letter;
 use crate::table::{LetterTable, Place};
@@ -18,19 +18,17 @@ struct Candidate {
 impl LetterTable {
     // The place of the usable letter that goes first.
     pub fn choose<O: DrawOrder>(&self, day: u16, order: &O) -> Option<Place>
-        ensures some { MatchOption result (some_row (usable day) self.now.rows ≡ false) (λ _. some_row (usable day) self.now.rows ≡ true) }
+        ensures some { MatchOption result (list_any (usable day) self.now.rows ≡ false) (λ _. list_any (usable day) self.now.rows ≡ true) }
         ensures first { distinct_numbers self.now.rows ≡ true → FindsFirst (goes_first (O.before order.now) day self.now.rows) self.now.rows (λ p. p.index) result }
         ensures only { distinct_numbers self.now.rows ≡ true → IfSome result (λ p. OnlyFirstUsable (O.before order.now) day self.now.rows p.index) }
     {
-        match first_usable(&self.rows, day, order) {
-            Some(first) => Some(Place { index: first.index }),
-            None => None,
-        }
+        let first = first_usable(&self.rows, day, order)?;
+        Some(Place { index: first.index })
     }
 }
 
 fn first_usable<O: DrawOrder>(rows: &[Letter], day: u16, order: &O) -> Option<Candidate>
-    ensures some { MatchOption result (some_row (usable day) rows.now ≡ false) (λ c. (c.index < length rows.now) × (usable day (slice_index_or rows.now c.index no_letter) ≡ true)) }
+    ensures some { MatchOption result (list_any (usable day) rows.now ≡ false) (λ c. (c.index < length rows.now) × (usable day (slice_index_or rows.now c.index no_letter) ≡ true)) }
     ensures first { distinct_numbers rows.now ≡ true → IfSome result (λ c. FirstUsable (O.before order.now) day rows.now c.index) }
 {
     let mut first = None;
@@ -38,7 +36,7 @@ fn first_usable<O: DrawOrder>(rows: &[Letter], day: u16, order: &O) -> Option<Ca
         if row.is_usable(day) {
             first = Some(Candidate {
                 index,
-                facts: row.facts(),
+                facts: row.into(),
             }
             .or_before(first, order));
         }

@@ -1,30 +1,28 @@
 // What a new day does to the letters.
-ghost use Rattle.std.specs.Prelude.{◌≡◌, true, false, map, MatchBool};
-ghost use Rattle.tables.specs.Rows.{every_row};
+ghost use Rattle.std.specs.Prelude.{◌≡◌, false, map, MatchResult};
+ghost use Rattle.std.specs.List.{list_all};
 ghost use Rattle.letters.specs.Letters.{balanced};
 ghost use Rattle.letters.specs.Sums.{after_day};
 
 use crate::letter::Letter;
+use crate::sums::Unbalanced;
 use crate::table::LetterTable;
 
 impl LetterTable {
-    // Ends the letters that are past their last day when this day has come and whose originals are in. Answers whether
-    // every row was found in balance.
-    pub fn end_past(&mut self, day: u16) -> bool
-        ensures { MatchBool result (self.new.rows ≡ map (after_day day) self.old.rows) (every_row balanced self.old.rows ≡ false) }
+    // Ends the letters that are past their last day when this day has come and whose originals are in, up to the first row
+    // that is out of balance.
+    pub fn end_past(&mut self, day: u16) -> Result<(), Unbalanced>
+        ensures { MatchResult result (λ _. self.new.rows ≡ map (after_day day) self.old.rows) (λ _. list_all balanced self.old.rows ≡ false) }
     {
         end_past(&mut self.rows, day)
     }
 }
 
-fn end_past(rows: &mut [Letter], day: u16) -> bool
-    ensures { MatchBool result (rows.new ≡ map (after_day day) rows.old) (every_row balanced rows.old ≡ false) }
+fn end_past(rows: &mut [Letter], day: u16) -> Result<(), Unbalanced>
+    ensures { MatchResult result (λ _. rows.new ≡ map (after_day day) rows.old) (λ _. list_all balanced rows.old ≡ false) }
 {
     for row in rows.iter_mut() {
-        match row.after_day(day) {
-            Some(after) => *row = after,
-            None => return false,
-        }
+        *row = row.after_day(day)?;
     }
-    true
+    Ok(())
 }

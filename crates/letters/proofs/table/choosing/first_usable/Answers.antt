@@ -17,7 +17,7 @@ loop-index-preserved g c =
     let so_far = c.loop-index.first in
     elim c.if-is_usable.branch [
       | then-is_usable w ↦
-          let is = w.first-is ∙ ap Some (w.or_before.ensures ∙ ap (λ known. first_of before day rows i known so_far) w.facts.ensures) in
+          let is = w.first-is ∙ ap Some (w.or_before.ensures ∙ ap (λ known. first_of before day rows i known so_far) w.into.ensures) in
           subst (Leads before day rows (i + 1)) (sym is) (taken before day rows (met.one_first order) (met.carries order) i c.loop-index-test.true (sym c.is_usable.ensures ∙ w.if-is_usable.true) so_far c.loop-index.invariant)
       | else-is_usable w ↦ subst (Leads before day rows (i + 1)) (sym w.first-is) (passed_over before day rows i so_far (sym c.is_usable.ensures ∙ w.if-is_usable.false) c.loop-index.invariant)
     ]

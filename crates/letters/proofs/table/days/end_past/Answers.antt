@@ -1,7 +1,7 @@
-use Rattle.std.proofs.Common.{◌≡◌, ℕ, zero, suc, ◌<◌, List, [], ◌∷◌, ◌++◌, map, length, get_or, take, drop, set, sym, refl, ap, ◌∙◌, append-nil, le_of_suc-le-suc, arith}
+use Rattle.std.proofs.Common.{◌≡◌, ℕ, zero, suc, ◌<◌, List, [], ◌∷◌, ◌++◌, map, length, get_or, take, drop, set, sym, refl, ap, ◌∙◌, append-nil, le_of_suc-le-suc, arith, rules}
 use Rattle.std.proofs.lemmas.List.Edits.{map_over_more}
 use Rattle.std.proofs.lemmas.List.{drop_all, get_or_default, take_all}
-use Rattle.tables.proofs.Places.{not_every_row}
+use Rattle.std.proofs.lemmas.List.Folds.{list_all_at}
 use Rattle.letters.specs.Letters.{balanced, no_letter}
 use Rattle.letters.specs.Sums.{after_day}
 use Rattle.letters.proofs.table.days.end_past.Goals as goal
@@ -12,20 +12,21 @@ unchanged_at f [] i d h = absurd (omega arith)
 unchanged_at f (x ∷ xs) zero d h = refl
 unchanged_at f (x ∷ xs) (suc i) d h = unchanged_at f xs i d (le_of_suc-le-suc h)
 
-pub returns-in-None : goal.returns-in-None
-returns-in-None c =
+pub returns-in_err-row : goal.returns-in_err-row
+returns-in_err-row c =
     let rows = c.args.rows.now in
     let i = c.loop-row.row-index in
     let h = c.loop-row-test.true in
     let same = ap (λ (rows : List _). get_or rows i no_letter) c.loop-row.invariant ∙ unchanged_at (after_day c.args.day) rows i no_letter h in
-    not_every_row balanced no_letter rows i h (ap balanced (sym same) ∙ c.in-None.ensures)
+    let fails = list_all_at balanced rows i no_letter h (ap balanced (sym same) ∙ c.in_err-row.ensures) in
+    search rules
 
 pub loop-row-preserved : goal.loop-row-preserved
 loop-row-preserved c =
     let rows = c.loop-row.rows in
     let i = c.loop-row.row-index in
     let within : i < length rows = omega arith in
-    ap (set rows i) c.in-Some.ensures ∙ map_over_more (after_day c.args.day) c.args.rows.now rows i _ c.loop-row-test.true c.loop-row.invariant (get_or_default rows i _ _ within)
+    ap (set rows i) c.in_ok-row.ensures ∙ map_over_more (after_day c.args.day) c.args.rows.now rows i _ c.loop-row-test.true c.loop-row.invariant (get_or_default rows i _ _ within)
 
 pub returns : goal.returns
 returns c =
