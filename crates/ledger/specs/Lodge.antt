@@ -1,5 +1,6 @@
 -- The posting of a new letter.
 use Rattle.std.specs.Prelude.{ℕ, ◌+◌, Bool, cond, not, ◌&&◌, List, [], ◌∷◌, ◌++◌, ◌==◌, nat_le, nat_lt, slice_set}
+use Rattle.std.specs.List.{list_any, position_or_len}
 use Rattle.calendar.specs.Calendar.{first_day_of, last_day_of}
 use Rattle.draw_order.specs.declared.LetterKind.{LetterKind}
 use Rattle.draw_order.specs.declared.LetterKind.TheVariants.{BankSingle, BankInParts, InsuranceInParts}
@@ -7,16 +8,13 @@ use Rattle.letters.specs.Letters.{free, has_letter, held_total, starts_in_time}
 use Rattle.letters.specs.declared.letter.Letter.{Letter}
 use Rattle.letters.specs.declared.letter.Standing.TheVariants.{In}
 use Rattle.refusals.specs.Conditions.{Condition, ◌gives◌}
+use Rattle.refusals.specs.Ranges.{is_day, is_number, is_sum, within}
 use Rattle.refusals.specs.declared.Refusal.{Refusal}
 use Rattle.refusals.specs.declared.Refusal.TheVariants.{OutOfRange, NoPlace, NumberTaken, DaysDoNotFit, TotalTooLarge}
-use Rattle.tables.specs.Rows.{first_place, some_row}
 use Rattle.ledger.specs.Parties.{party_conditions}
 use Rattle.ledger.specs.declared.figures.Figures.{Figures}
 use Rattle.ledger.specs.declared.party.Party.TheVariants.{Centre}
 use Rattle.ledger.specs.declared.terms.LetterTerms.{LetterTerms}
-
-abbrev within : ℕ → ℕ → ℕ → Bool
-within low high figure = nat_le low figure && nat_le figure high
 
 -- The kind that a code stands for, where it stands for one.
 abbrev pub kind_of : ℕ → LetterKind
@@ -25,8 +23,7 @@ kind_of code = cond (code == 1) BankSingle (cond (code == 2) BankInParts Insuran
 -- Number from 1 to 9,999, kind from 1 to 3, sum from 1 to 3,000,000,000 fen, both days up to 7,304, target month up to 233.
 abbrev pub in_range : LetterTerms → Bool
 in_range t =
-    within 1 9999 t.number && within 1 3 t.kind && within 1 3_000_000_000 t.sum && nat_le t.first_day 7304 && nat_le t.last_day 7304
-    && nat_le t.target_month 233
+    is_number t.number && within 1 3 t.kind && is_sum t.sum && is_day t.first_day && is_day t.last_day && nat_le t.target_month 233
 
 -- The last day is neither before today, nor before the first day, nor before the end of the sixth month after the target
 -- month, and the first day is early enough.
@@ -41,7 +38,7 @@ lodge_conditions f party t =
     party_conditions Centre party
     ++ not (in_range t) gives OutOfRange
     ∷ has_letter t.number f.letters.rows gives NumberTaken
-    ∷ not (some_row free f.letters.rows) gives NoPlace
+    ∷ not (list_any free f.letters.rows) gives NoPlace
     ∷ not (days_fit f t) gives DaysDoNotFit
     ∷ nat_lt 3_000_000_000 (held_total f.letters.rows + t.sum) gives TotalTooLarge
     ∷ []
@@ -67,4 +64,4 @@ with_letters f rows = record { today = f.today; usage = f.usage; grades = f.grad
 
 -- The book with the new letter at the first free place.
 abbrev pub lodged : Figures → LetterTerms → Figures
-lodged f t = with_letters f (slice_set f.letters.rows (first_place free f.letters.rows) (new_letter t))
+lodged f t = with_letters f (slice_set f.letters.rows (position_or_len free f.letters.rows) (new_letter t))

@@ -1,7 +1,7 @@
 // The book of one retailer. Its type carries what holds of the figures of every book that can be.
 ghost use Rattle.std.specs.Prelude.{◌≡◌, ◌≤◌, true};
 ghost use Rattle.letters.specs.Letters.{held_total, sound_row};
-ghost use Rattle.tables.specs.Rows.{every_row};
+ghost use Rattle.std.specs.List.{list_all};
 
 use crate::figures::Figures;
 
@@ -15,6 +15,6 @@ pub use opening::open;
 pub struct Book {
     figures: Figures,
     ghost dated: { figures.today ≤ 7304 },
-    ghost rows: { every_row sound_row figures.letters.rows ≡ true },
+    ghost rows: { list_all sound_row figures.letters.rows ≡ true },
     ghost held: { held_total figures.letters.rows ≤ 3000000000 },
 }

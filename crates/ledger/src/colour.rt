@@ -1,8 +1,11 @@
 // The colour of a book.
-ghost use Rattle.std.specs.Prelude.{◌≡◌};
+ghost use Rattle.std.specs.Prelude.{◌≡◌, Some};
+ghost use Rattle.std.proofs.Math.Utf8.{encode};
 ghost use Rattle.ledger.specs.Colours.{colour_letter, colour_of};
 
-#[derive(Clone, Copy)]
+use std::fmt;
+
+#[derive(Clone, Copy, Debug, PartialEq, Eq)]
 pub enum Colour {
     Red,
     Orange,
@@ -15,8 +18,8 @@ impl Colour {
     pub fn of(limit: i64, exposure: u64) -> Colour
         ensures { result ≡ colour_of limit exposure }
     {
-        let limit = limit as i128;
-        let exposure = exposure as i128;
+        let limit = i128::from(limit);
+        let exposure = i128::from(exposure);
         if exposure >= limit {
             Colour::Red
         } else if 100 * exposure >= 80 * limit {
@@ -37,5 +40,15 @@ impl Colour {
             Colour::Yellow => 'Y',
             Colour::Green => 'G',
         }
+    }
+}
+
+// A colour is written as its letter.
+impl fmt::Display for Colour {
+    ghost output = { λ colour. Some (encode (colour_letter colour)) };
+
+    fn fmt<W: fmt::Write>(&self, f: &mut fmt::Formatter<W>) -> fmt::Result {
+        let letter = self.letter();
+        write!(f, "{letter}")
     }
 }

@@ -1,22 +1,17 @@
-// What the opening and the postings answer.
+// What the opening and the postings answer: nothing more where they are accepted, and else the refusal.
 ghost use Rattle.std.specs.Prelude.{◌≡◌};
 ghost use Rattle.ledger.specs.Outcomes.{outcome_number};
 
 use refusals::Refusal;
 
-#[derive(Clone, Copy)]
-pub enum Outcome {
-    Accepted,
-    Refused(Refusal),
-}
+pub type Outcome = Result<(), Refusal>;
 
-impl Outcome {
-    pub fn number(self) -> u8
-        ensures { result ≡ outcome_number self }
-    {
-        match self {
-            Outcome::Accepted => 0,
-            Outcome::Refused(refusal) => refusal.number(),
-        }
+// The number of an outcome.
+pub fn number(outcome: Outcome) -> u8
+    ensures { result ≡ outcome_number outcome }
+{
+    match outcome {
+        Ok(()) => 0,
+        Err(refusal) => refusal.number(),
     }
 }

@@ -30,10 +30,10 @@ impl Book {
         ensures { MatchOption result (has_letter number self.now.figures.letters.rows ≡ false) (λ s. let row = letter_row number self.now.figures.letters.rows in (has_letter number self.now.figures.letters.rows ≡ true) × (with_sums row s.lodged s.drawn s.returned s.lapsed s.held ≡ row)) }
     {
         let place = self.figures.letters.find(number)?;
-        match LetterSums::of(&self.figures.letters.row(place)) {
-            Some(sums) => Some(sums),
+        match LetterSums::try_from(&self.figures.letters.row(place)) {
+            Ok(sums) => Some(sums),
             // Every row of a book keeps the equation.
-            None => unreachable(),
+            Err(_) => unreachable(),
         }
     }
 

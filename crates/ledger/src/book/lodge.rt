@@ -1,10 +1,11 @@
 // The posting of a new letter.
 ghost use Rattle.std.specs.Prelude.{◌≡◌, ◌+◌, ◌≤◌, true, false, MatchResult};
+ghost use Rattle.std.specs.List.{position_or_len};
 ghost use Rattle.letters.specs.Letters.{free, held_total};
+ghost use Rattle.refusals.specs.Conditions.{Checked};
 ghost use Rattle.refusals.specs.declared.Refusal.TheVariants.{OutOfRange};
-ghost use Rattle.tables.specs.Rows.{first_place};
 ghost use Rattle.ledger.specs.Lodge.{lodge_conditions, lodged, in_range, days_fit, kind_of, new_letter};
-ghost use Rattle.ledger.specs.Outcomes.{Checked, Settled};
+ghost use Rattle.ledger.specs.Outcomes.{Settled};
 
 use crate::book::Book;
 use crate::outcome::Outcome;
@@ -27,6 +28,19 @@ const LAST_DAY: u16 = 7304;
 
 const LAST_NUMBER: u16 = 9999;
 
+// Terms whose figures are all in their ranges, and what they stand for.
+#[derive(Clone, Copy)]
+struct TermsInRange {
+    terms: LetterTerms,
+    kind: LetterKind,
+    target: Month,
+    // The target month needs six months after it.
+    sixth: Month,
+    ghost of_kind: { kind ≡ kind_of terms.kind },
+    ghost of_target: { target.number ≡ terms.target_month },
+    ghost of_sixth: { sixth.number ≡ terms.target_month + 6 },
+}
+
 // A letter that may be lodged, and the place for it.
 #[derive(Clone, Copy)]
 struct NewLetter {
@@ -44,85 +58,86 @@ impl Book {
     ) -> Outcome
         ensures { Settled (lodge_conditions self.old.figures party terms) self.old.figures (lodged self.old.figures terms) result self.new.figures }
     {
-        match self.check_lodge(party, terms) {
-            Ok(new) => {
-                self.figures.letters.put(new.place, new.row);
-                Outcome::Accepted
-            }
-            Err(refusal) => Outcome::Refused(refusal),
-        }
+        let new = self.check_lodge(party, terms)?;
+        self.figures.letters.put(new.place, new.row);
+        Ok(())
     }
 
     fn check_lodge(&self, party: u8, terms: LetterTerms) -> Result<NewLetter, Refusal>
-        ensures { Checked (lodge_conditions self.now.figures party terms) result (λ p. (p.place.index ≡ first_place free self.now.figures.letters.rows) × (p.row ≡ new_letter terms) × (held_total self.now.figures.letters.rows + terms.sum ≤ 3000000000)) }
+        ensures { Checked (lodge_conditions self.now.figures party terms) result (λ p. (p.place.index ≡ position_or_len free self.now.figures.letters.rows) × (p.row ≡ new_letter terms) × (held_total self.now.figures.letters.rows + terms.sum ≤ 3000000000)) }
     {
         Party::Centre.admit(party)?;
-        let (kind, target, sixth) = read_terms(terms)?;
+        let letter = TermsInRange::try_from(terms)?;
         if self.figures.letters.find(terms.number).is_some() {
             return Err(Refusal::NumberTaken);
         }
-        let Some(place) = self.figures.letters.free_place() else {
-            return Err(Refusal::NoPlace);
-        };
-        if !self.days_fit(terms, target, sixth) {
+        let place = self.figures.letters.free_place().ok_or(Refusal::NoPlace)?;
+        if !self.days_fit(letter) {
             return Err(Refusal::DaysDoNotFit);
         }
-        if self.figures.letters.held() + terms.sum as u128 > MOST_HELD {
+        if self.figures.letters.held() + u128::from(terms.sum) > MOST_HELD {
             return Err(Refusal::TotalTooLarge);
         }
         Ok(NewLetter {
             place,
-            row: new_letter(terms, kind),
+            row: letter.row(),
         })
     }
 
-    fn days_fit(&self, terms: LetterTerms, target: Month, sixth: Month) -> bool
-        requires { (target.number ≡ terms.target_month) × (sixth.number ≡ terms.target_month + 6) }
-        ensures { result ≡ days_fit self.now.figures terms }
+    fn days_fit(&self, letter: TermsInRange) -> bool
+        ensures { result ≡ days_fit self.now.figures letter.terms }
     {
+        let terms = letter.terms;
         self.figures.today <= terms.last_day
             && terms.first_day <= terms.last_day
-            && sixth.last_day().number() <= terms.last_day
+            && letter.sixth.last_day().number() <= terms.last_day
             && self
                 .figures
                 .letters
-                .starts_in_time(terms.first_day, target.first_day().number())
+                .starts_in_time(terms.first_day, letter.target.first_day().number())
     }
 }
 
-// The kind, the target month and the sixth month after it, if every figure is in its range.
-fn read_terms(terms: LetterTerms) -> Result<(LetterKind, Month, Month), Refusal>
-    ensures { MatchResult result (λ p. (in_range terms ≡ true) × (p.0 ≡ kind_of terms.kind) × (p.1.number ≡ terms.target_month) × (p.2.number ≡ terms.target_month + 6)) (λ e. (in_range terms ≡ false) × (e ≡ OutOfRange)) }
-{
-    let Some(kind) = LetterKind::from_code(terms.kind) else {
-        return Err(Refusal::OutOfRange);
-    };
-    let Some(target) = Month::new(terms.target_month) else {
-        return Err(Refusal::OutOfRange);
-    };
-    // The target month needs six months after it.
-    let Some(sixth) = target.later(6) else {
-        return Err(Refusal::OutOfRange);
-    };
-    if terms.number == 0 || terms.number > LAST_NUMBER || terms.sum == 0 || terms.sum > MOST_SUM {
-        return Err(Refusal::OutOfRange);
+impl TryFrom<LetterTerms> for TermsInRange {
+    type Error = Refusal;
+
+    ghost try_from_gives = { λ terms r. MatchResult r (λ letter. (in_range terms ≡ true) × (letter.terms ≡ terms)) (λ e. (in_range terms ≡ false) × (e ≡ OutOfRange)) };
+
+    fn try_from(terms: LetterTerms) -> Result<TermsInRange, Refusal> {
+        let kind = LetterKind::try_from(terms.kind)?;
+        let target = Month::new(terms.target_month).ok_or(Refusal::OutOfRange)?;
+        let sixth = target.later(6).ok_or(Refusal::OutOfRange)?;
+        if terms.number == 0
+            || terms.number > LAST_NUMBER
+            || terms.sum == 0
+            || terms.sum > MOST_SUM
+        {
+            return Err(Refusal::OutOfRange);
+        }
+        if terms.first_day > LAST_DAY || terms.last_day > LAST_DAY {
+            return Err(Refusal::OutOfRange);
+        }
+        Ok(TermsInRange {
+            terms,
+            kind,
+            target,
+            sixth,
+        })
     }
-    if terms.first_day > LAST_DAY || terms.last_day > LAST_DAY {
-        return Err(Refusal::OutOfRange);
-    }
-    Ok((kind, target, sixth))
 }
 
-fn new_letter(terms: LetterTerms, kind: LetterKind) -> Letter
-    requires { kind ≡ kind_of terms.kind }
-    ensures { result ≡ new_letter terms }
-{
-    LetterSums::lodge(terms.sum).written_to(Letter {
-        number: terms.number,
-        kind,
-        first_day: terms.first_day,
-        last_day: terms.last_day,
-        standing: Standing::In,
-        ..Letter::NONE
-    })
+impl TermsInRange {
+    // The row of the new letter.
+    fn row(self) -> Letter
+        ensures { result ≡ new_letter self.terms }
+    {
+        LetterSums::lodge(self.terms.sum).written_to(Letter {
+            number: self.terms.number,
+            kind: self.kind,
+            first_day: self.terms.first_day,
+            last_day: self.terms.last_day,
+            standing: Standing::In,
+            ..Letter::NONE
+        })
+    }
 }

@@ -1,11 +1,12 @@
 // The opening of a book.
 ghost use Rattle.std.specs.Prelude.{◌≡◌};
 ghost use Rattle.ledger.specs.Opening.{empty_on, opening_conditions, opening_outcome};
-ghost use Rattle.ledger.specs.Outcomes.{outcome_number, Checked, Settled};
+ghost use Rattle.ledger.specs.Outcomes.{outcome_number, Settled};
+ghost use Rattle.refusals.specs.Conditions.{Checked};
 
 use crate::book::Book;
 use crate::figures::Figures;
-use crate::outcome::Outcome;
+use crate::outcome::{Outcome, number};
 use crate::party::Party;
 use calendar::day::Day;
 use letters::table::LetterTable;
@@ -26,6 +27,15 @@ impl Book {
             },
         }
     }
+
+    fn start_anew(&mut self, party: u8, day: u16) -> Outcome
+        ensures { Settled (opening_conditions party day) self.old.figures (empty_on day) result self.new.figures }
+    {
+        let day = opening_day(party, day)?;
+        *self = Book::new();
+        self.figures.today = day.number();
+        Ok(())
+    }
 }
 
 // Opens the book that is lent, whatever it held, and answers the number of the outcome.
@@ -33,22 +43,12 @@ pub fn open(book: &mut Book, party: u8, day: u16) -> u8
     ensures number { result ≡ outcome_number (opening_outcome party day) }
     ensures settled { Settled (opening_conditions party day) book.old.figures (empty_on day) (opening_outcome party day) book.new.figures }
 {
-    match opening_day(party, day) {
-        Ok(day) => {
-            *book = Book::new();
-            book.figures.today = day.number();
-            Outcome::Accepted.number()
-        }
-        Err(refusal) => Outcome::Refused(refusal).number(),
-    }
+    number(book.start_anew(party, day))
 }
 
 fn opening_day(party: u8, day: u16) -> Result<Day, Refusal>
     ensures { Checked (opening_conditions party day) result (λ d. d.number ≡ day) }
 {
     Party::Centre.admit(party)?;
-    match Day::new(day) {
-        Some(day) => Ok(day),
-        None => Err(Refusal::OutOfRange),
-    }
+    Day::new(day).ok_or(Refusal::OutOfRange)
 }
