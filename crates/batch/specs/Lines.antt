@@ -2,6 +2,7 @@
 use Rattle.std.specs.Prelude.{ℕ, List, ◌++◌, codes, decimal}
 use Rattle.std.proofs.Math.Utf8.{encode}
 use Rattle.ledger.specs.Colours.{colour_letter}
+use Rattle.ledger.specs.Outcomes.{outcome_number}
 use Rattle.records.specs.Faults.{fault_number}
 use Rattle.records.specs.Kinds.{kind_letter}
 use Rattle.batch.specs.declared.answer.Answer.{Answer}
@@ -14,7 +15,7 @@ line first second third fourth = first ++ (codes " " ++ (second ++ (codes " " ++
 
 -- An answer's line: record number, kind, result and colour.
 abbrev pub answer_line : Answer → List ℕ
-answer_line a = line (decimal a.number) (encode (kind_letter a.kind)) (decimal a.result) (encode (colour_letter a.colour))
+answer_line a = line (decimal a.number) (encode (kind_letter a.kind)) (decimal (outcome_number a.result)) (encode (colour_letter a.colour))
 
 -- The figures of a fault: the number of the record, of the fault, and the offset. A batch that is too long has no record.
 abbrev pub fault_figures : BatchFault → ℕ × ℕ × ℕ

@@ -4,9 +4,9 @@ use Rattle.draw_order.specs.Orders.{Order}
 use Rattle.ledger.specs.Limits.{colour}
 use Rattle.ledger.specs.Lodge.{lodge_conditions, lodged}
 use Rattle.ledger.specs.Opening.{empty_on, opening_outcome}
-use Rattle.ledger.specs.Outcomes.{book_after, outcome_number, outcome_of}
+use Rattle.std.specs.Result.{is_ok}
+use Rattle.ledger.specs.Outcomes.{Outcome, book_after, outcome_of}
 use Rattle.ledger.specs.declared.figures.Figures.{Figures}
-use Rattle.ledger.specs.declared.outcome.Outcome.{Outcome}
 use Rattle.rating.specs.Policies.{Coefficient}
 use Rattle.refusals.specs.Conditions.{Condition, ◌gives◌, first_given}
 use Rattle.records.specs.Records.{entry_kind, record_faults, record_in, record_length}
@@ -30,14 +30,14 @@ book_after_record f r = book_after (record_outcome f r) f (elim r.entry [ Openin
 
 -- The answer to the record with this number.
 abbrev pub answer_to : Coefficient → ℕ → Figures → Record → Answer
-answer_to policy number f r = record { number = number; kind = entry_kind r.entry; result = outcome_number (record_outcome f r); colour = colour policy (book_after_record f r) }
+answer_to policy number f r = record { number = number; kind = entry_kind r.entry; result = record_outcome f r; colour = colour policy (book_after_record f r) }
 
 abbrev pub opens : Record → Bool
 opens r = elim r.entry [ Opening day ↦ true | Lodge terms ↦ false ]
 
 -- The first record is an opening that is accepted, and no later record is an opening.
 abbrev pub turn_faults : ℕ → Figures → Record → List (Condition RecordFault)
-turn_faults number f r = not (cond (number == 1) (opens r && outcome_number (record_outcome f r) == 0) (not (opens r))) gives OutOfTurn ∷ []
+turn_faults number f r = not (cond (number == 1) (opens r && is_ok (record_outcome f r)) (not (opens r))) gives OutOfTurn ∷ []
 
 -- All faults of a record in their order, where a place is left for its answer.
 abbrev pub faults : ℕ → Figures → List ℕ → List (Condition RecordFault)

@@ -3,16 +3,16 @@ ghost use Rattle.std.specs.Prelude.{Some};
 ghost use Rattle.batch.specs.Lines.{answer_line};
 
 use ledger::colour::Colour;
+use ledger::outcome::{self, Outcome};
 use records::kind::Kind;
 use std::fmt;
 
-#[derive(Clone, Copy)]
+#[derive(Clone, Copy, Debug, PartialEq, Eq)]
 pub struct Answer {
     // The record's number in its batch, from 1.
     pub number: usize,
     pub kind: Kind,
-    // The number of the outcome.
-    pub result: u8,
+    pub result: Outcome,
     // The colour of the book after it.
     pub colour: Colour,
 }
@@ -22,7 +22,7 @@ impl Answer {
     pub const BLANK: Answer = Answer {
         number: 0,
         kind: Kind::Opening,
-        result: 0,
+        result: Ok(()),
         colour: Colour::Red,
     };
 }
@@ -32,9 +32,9 @@ impl fmt::Display for Answer {
 
     fn fmt<W: fmt::Write>(&self, f: &mut fmt::Formatter<W>) -> fmt::Result {
         let number = self.number;
-        let kind = self.kind.letter();
-        let result = self.result;
-        let colour = self.colour.letter();
+        let kind = self.kind;
+        let result = outcome::number(self.result);
+        let colour = self.colour;
         write!(f, "{number} {kind} {result} {colour}")
     }
 }

@@ -4,22 +4,23 @@ ghost use Rattle.batch.specs.Lines.{fault_figures, fault_line};
 ghost use Rattle.batch.specs.declared.fault.BatchFault.TheVariants.{AtRecord};
 
 use records::fault::RecordFault;
+use std::error::Error;
 use std::fmt;
 
 // Where a record stands in its batch: its number, from 1, and the offset of its first byte.
-#[derive(Clone, Copy)]
+#[derive(Clone, Copy, Debug, PartialEq, Eq)]
 pub struct Position {
     pub number: usize,
     pub offset: usize,
 }
 
-#[derive(Clone, Copy)]
+#[derive(Clone, Copy, Debug, PartialEq, Eq)]
 pub struct FaultAt {
     pub position: Position,
     pub fault: RecordFault,
 }
 
-#[derive(Clone, Copy)]
+#[derive(Clone, Copy, Debug, PartialEq, Eq)]
 pub enum BatchFault {
     AtRecord(FaultAt),
     // The batch has more bytes than a batch may have.
@@ -58,3 +59,5 @@ impl fmt::Display for BatchFault {
         write!(f, "{record} ! {fault} {offset}")
     }
 }
+
+impl Error for BatchFault {}

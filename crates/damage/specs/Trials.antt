@@ -1,5 +1,5 @@
 -- Runs of damaged batches.
-use Rattle.std.specs.Prelude.{◌≡◌, ℕ, cond, List, length, replicate, Some, None, MatchBool, Option, nat_lt}
+use Rattle.std.specs.Prelude.{◌≡◌, ℕ, cond, List, length, replicate, Some, None, Ok, MatchBool, Option, nat_lt}
 use Rattle.batch.specs.Lines.{fault_figures}
 use Rattle.batch.specs.Runs.{Run, answered_in, run}
 use Rattle.batch.specs.declared.answer.Answer.{Answer}
@@ -16,7 +16,7 @@ use Rattle.std.specs.Result.{result_err}
 
 -- What a place of the answer list holds before it is filled.
 abbrev pub blank : Answer
-blank = record { number = 0; kind = Opening; result = 0; colour = Red }
+blank = record { number = 0; kind = Opening; result = Ok tt; colour = Red }
 
 -- The run of a batch on a new book, with eight places for answers.
 abbrev pub fresh_run : List ℕ → Run

@@ -14,15 +14,8 @@ fn main(rt: HostRuntime) -> io::Result<()> {
     let mut batch = Vec::new(rt.alloc());
     rt.stdin().take(MOST_BYTES as u64).read_to_end(&mut batch)?;
     for length in 0..=batch.len() {
-        let (front, _) = batch.as_slice().split_at(length);
-        let trial = run_fresh(front);
-        let answered = trial.answered;
-        let held = trial.held;
-        print!(rt; "cut to {length}: {answered} answered, letter 7 holds {held}, ")?;
-        match trial.fault {
-            Some(fault) => println!(rt; "fault {fault}")?,
-            None => println!(rt; "no fault")?,
-        }
+        let trial = run_fresh(&batch[..length]);
+        println!(rt; "cut to {length}: {trial}")?;
     }
     for index in 0..batch.len() {
         let tally = tally_changes(batch.as_mut_slice(), index);

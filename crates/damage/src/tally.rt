@@ -7,7 +7,7 @@ use batch::fault::BatchFault;
 use std::fmt;
 
 // How many runs ended without a fault, and with each of the faults 1 to 6.
-#[derive(Clone, Copy)]
+#[derive(Clone, Copy, Debug, PartialEq, Eq)]
 pub struct Tally {
     counts: [u16; 7],
 }
@@ -29,10 +29,7 @@ fn ending(fault: Option<BatchFault>) -> usize
     ensures value { result ≡ ending fault }
     ensures small { result < 7 }
 {
-    match fault {
-        Some(fault) => fault.figures().1 as usize,
-        None => 0,
-    }
+    fault.map_or(0, |fault| usize::from(fault.figures().1))
 }
 
 // Runs a batch with one byte changed to each other value in turn, and leaves the batch as it was.
@@ -44,7 +41,7 @@ pub(crate) fn tally_changes(batch: &mut [u8], index: usize) -> Tally
     let original = batch[index];
     let mut tally = Tally { counts: [0; 7] };
     for step in 1..256u16 {
-        batch[index] = ((original as u16 + step) % 256) as u8;
+        batch[index] = original.wrapping_add(step as u8);
         tally.note(run_fresh(batch).fault);
     }
     batch[index] = original;

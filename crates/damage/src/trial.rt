@@ -5,9 +5,10 @@ ghost use Rattle.damage.specs.Trials.{Tried, letter_holds};
 use batch::answer::Answer;
 use batch::fault::BatchFault;
 use ledger::book::Book;
+use std::fmt;
 use submission::{answered, submit};
 
-#[derive(Clone, Copy)]
+#[derive(Clone, Copy, Debug, PartialEq, Eq)]
 pub struct Trial {
     pub answered: usize,
     pub fault: Option<BatchFault>,
@@ -32,8 +33,17 @@ pub fn run_fresh(batch: &[u8]) -> Trial
 fn held_by(book: &Book, number: u16) -> u32
     ensures { result ≡ letter_holds number book.now.figures }
 {
-    match book.letter_sums(number) {
-        Some(sums) => sums.held(),
-        None => 0,
+    book.letter_sums(number).map_or(0, |sums| sums.held())
+}
+
+impl fmt::Display for Trial {
+    fn fmt<W: fmt::Write>(&self, f: &mut fmt::Formatter<W>) -> fmt::Result {
+        let answered = self.answered;
+        let held = self.held;
+        write!(f, "{answered} answered, letter 7 holds {held}, ")?;
+        match self.fault {
+            Some(fault) => write!(f, "fault {fault}"),
+            None => write!(f, "no fault"),
+        }
     }
 }

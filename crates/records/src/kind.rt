@@ -1,8 +1,11 @@
 // The kinds of records.
-ghost use Rattle.std.specs.Prelude.{◌≡◌};
+ghost use Rattle.std.specs.Prelude.{◌≡◌, Some};
+ghost use Rattle.std.proofs.Math.Utf8.{encode};
 ghost use Rattle.records.specs.Kinds.{kind_letter, kind_map, kind_of};
 
-#[derive(Clone, Copy)]
+use std::fmt;
+
+#[derive(Clone, Copy, Debug, PartialEq, Eq)]
 pub enum Kind {
     Opening,
     Lodge,
@@ -36,5 +39,15 @@ impl Kind {
             Kind::Opening => 0x0023,
             Kind::Lodge => 0x00ff,
         }
+    }
+}
+
+// A kind is written as its letter.
+impl fmt::Display for Kind {
+    ghost output = { λ kind. Some (encode (kind_letter kind)) };
+
+    fn fmt<W: fmt::Write>(&self, f: &mut fmt::Formatter<W>) -> fmt::Result {
+        let letter = self.letter();
+        write!(f, "{letter}")
     }
 }

@@ -7,7 +7,7 @@ ghost use Rattle.submission.specs.Submitted.{Submitted};
 
 use batch::answer::Answer;
 use batch::fault::BatchFault;
-use batch::run::run_batch;
+use batch::run::House;
 use draw_order::EarliestLastDay;
 use ledger::book::Book;
 use rating::FlatZero;
@@ -24,7 +24,11 @@ pub fn submit(batch: &[u8], book: &mut Book, answers: &mut [Answer]) -> Result<u
     if batch.len() > MOST_BYTES {
         return Err(BatchFault::TooLong);
     }
-    run_batch(batch, book, answers, &FlatZero, &EarliestLastDay)
+    let house = House {
+        rating: &FlatZero,
+        order: &EarliestLastDay,
+    };
+    house.run_batch(batch, book, answers)
 }
 
 // How many records were answered: all, or those before the fault.

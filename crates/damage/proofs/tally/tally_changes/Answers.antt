@@ -1,9 +1,9 @@
-use Rattle.std.proofs.Common.{◌+◌, ◌%◌, get_or, ◌∙◌, arith}
+use Rattle.std.proofs.Common.{◌∙◌, arith}
 use Rattle.std.proofs.lemmas.List.{set-get_or, set-set}
 use Rattle.damage.proofs.tally.tally_changes.Goals as goal
 
 pub loop-step-preserved : goal.loop-step-preserved
-loop-step-preserved c = (omega (arith, c.note.ensures.total), λ byte. set-set c.loop-step.batch c.args.index ((get_or c.args.batch.now c.args.index 0 + c.loop-step.step) % 256) byte ∙ c.loop-step.invariant.1 byte)
+loop-step-preserved c = (omega (arith, c.note.ensures.total), λ byte. set-set c.loop-step.batch c.args.index _ byte ∙ c.loop-step.invariant.1 byte)
 
 pub returns : goal.returns
 returns c = record { each = omega arith; restored = c.loop-step.invariant.1 _ ∙ set-get_or _ _ _ }

@@ -4,7 +4,7 @@ use Rattle.refusals.specs.Conditions.{first_given}
 use Rattle.std.proofs.lemmas.Result.{err_from_is_err_and}
 use Rattle.records.specs.Records.{record_faults, record_in}
 use Rattle.batch.specs.Runs.{turn_faults}
-use Rattle.batch.proofs.run.take_record.Goals as goal
+use Rattle.batch.proofs.run.House.take_record.Goals as goal
 
 pub returns-in_err-record : goal.returns-in_err-record
 returns-in_err-record g c =
