@@ -1,21 +1,28 @@
 -- A row with other sums, and how a letter ends.
-use Rattle.std.specs.Prelude.{ℕ, ◌+◌, cond, ◌&&◌, nat_lt}
-use Rattle.letters.specs.Letters.{original_in}
+use Rattle.std.specs.Prelude.{◌≡◌, ℕ, ◌+◌, false, cond, ◌&&◌, Result, MatchResult, nat_lt}
+use Rattle.letters.specs.Letters.{balanced, original_in}
 use Rattle.letters.specs.declared.letter.Letter.{Letter}
+use Rattle.letters.specs.declared.sums.LetterSums.{LetterSums}
+use Rattle.letters.specs.declared.sums.rows.Unbalanced.{Unbalanced}
 use Rattle.letters.specs.declared.letter.Standing.TheVariants.{Ended}
 
-abbrev pub with_sums : Letter → ℕ → ℕ → ℕ → ℕ → ℕ → Letter
-with_sums row lodged drawn returned lapsed held =
+-- What makes something of a row answers: that of which a fact holds, and an error only where the row is not in balance.
+abbrev pub IfBalanced : {X : Type 0} → Letter → Result X Unbalanced → (X → Type 0) → Type 0
+IfBalanced row r P = MatchResult r P (λ _. balanced row ≡ false)
+
+-- The row with these sums in the place of its own.
+abbrev pub with_sums : Letter → LetterSums → Letter
+with_sums row sums =
     record {
       number = row.number;
       kind = row.kind;
       first_day = row.first_day;
       last_day = row.last_day;
-      lodged = lodged;
-      drawn = drawn;
-      returned = returned;
-      lapsed = lapsed;
-      held = held;
+      lodged = sums.lodged;
+      drawn = sums.drawn;
+      returned = sums.returned;
+      lapsed = sums.lapsed;
+      held = sums.held;
       standing = row.standing;
     }
 

@@ -1,10 +1,10 @@
 // The sums of one letter. Their type carries the equation that they keep: what was lodged was drawn, given back, or has
 // lapsed, or is held. They are made from a row, changed by value and written back with the whole row.
-ghost use Rattle.std.specs.Prelude.{◌≡◌, ◌+◌, false, MatchResult};
-ghost use Rattle.letters.specs.Letters.{balanced};
-ghost use Rattle.letters.specs.Sums.{with_sums};
+ghost use Rattle.std.specs.Prelude.{◌≡◌, ◌+◌};
 
-use crate::letter::Letter;
+mod rows;
+
+pub use rows::Unbalanced;
 
 #[derive(Clone, Copy, Debug, PartialEq, Eq)]
 pub struct LetterSums {
@@ -14,31 +14,6 @@ pub struct LetterSums {
     lapsed: u32,
     held: u32,
     ghost equation: { lodged ≡ drawn + returned + lapsed + held },
-}
-
-// A row's sums do not keep the equation.
-#[derive(Clone, Copy, Debug, PartialEq, Eq)]
-pub struct Unbalanced;
-
-// The sums of a row, if they keep the equation. Written back they give the row again.
-impl TryFrom<&Letter> for LetterSums {
-    type Error = Unbalanced;
-
-    ghost try_from_gives = { λ row r. MatchResult r (λ s. with_sums row.now s.lodged s.drawn s.returned s.lapsed s.held ≡ row.now) (λ _. balanced row.now ≡ false) };
-
-    fn try_from(row: &Letter) -> Result<LetterSums, Unbalanced> {
-        let gone = u64::from(row.drawn) + u64::from(row.returned) + u64::from(row.lapsed);
-        if gone + u64::from(row.held) != u64::from(row.lodged) {
-            return Err(Unbalanced);
-        }
-        Ok(LetterSums {
-            lodged: row.lodged,
-            drawn: row.drawn,
-            returned: row.returned,
-            lapsed: row.lapsed,
-            held: row.held,
-        })
-    }
 }
 
 impl LetterSums {
@@ -59,12 +34,11 @@ impl LetterSums {
     pub fn give_back(self) -> LetterSums
         ensures { (result.lodged ≡ self.lodged) × (result.drawn ≡ self.drawn) × (result.returned ≡ self.returned + self.held) × (result.lapsed ≡ self.lapsed) × (result.held ≡ 0) }
     {
-        let lapsed = self.lapsed;
         LetterSums {
             lodged: self.lodged,
             drawn: self.drawn,
             returned: self.returned + self.held,
-            lapsed,
+            lapsed: self.lapsed,
             held: 0,
         }
     }
@@ -110,19 +84,5 @@ impl LetterSums {
         ensures { result ≡ self.held }
     {
         self.held
-    }
-
-    // The row with these sums in the place of its own.
-    pub fn written_to(self, row: Letter) -> Letter
-        ensures { result ≡ with_sums row self.lodged self.drawn self.returned self.lapsed self.held }
-    {
-        Letter {
-            lodged: self.lodged,
-            drawn: self.drawn,
-            returned: self.returned,
-            lapsed: self.lapsed,
-            held: self.held,
-            ..row
-        }
     }
 }

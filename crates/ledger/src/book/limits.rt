@@ -27,7 +27,7 @@ impl Book {
 
     // The sums of the letter with this number, if the book has one.
     pub fn letter_sums(&self, number: u16) -> Option<LetterSums>
-        ensures { MatchOption result (has_letter number self.now.figures.letters.rows ≡ false) (λ s. let row = letter_row number self.now.figures.letters.rows in (has_letter number self.now.figures.letters.rows ≡ true) × (with_sums row s.lodged s.drawn s.returned s.lapsed s.held ≡ row)) }
+        ensures { MatchOption result (has_letter number self.now.figures.letters.rows ≡ false) (λ sums. let row = letter_row number self.now.figures.letters.rows in (has_letter number self.now.figures.letters.rows ≡ true) × (with_sums row sums ≡ row)) }
     {
         let place = self.figures.letters.find(number)?;
         match LetterSums::try_from(&self.figures.letters.row(place)) {
