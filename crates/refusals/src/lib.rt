@@ -1,6 +1,8 @@
 // Why something is refused. A reason has the same number wherever it is given.
 #![tactic(auto)]
 
+pub mod ranges;
+
 ghost use Rattle.std.specs.Prelude.{◌≡◌, Some, decimal};
 ghost use Rattle.refusals.specs.Refusals.{refusal_number};
 

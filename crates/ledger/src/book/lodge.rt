@@ -18,15 +18,10 @@ use letters::sums::LetterSums;
 use letters::table::Place;
 use rating::RatingPolicy;
 use refusals::Refusal;
+use refusals::ranges::{is_day, is_number, is_sum};
 
 // No held sums may add up to more, in fen.
 const MOST_HELD: u128 = 3_000_000_000;
-
-const MOST_SUM: u32 = 3_000_000_000;
-
-const LAST_DAY: u16 = 7304;
-
-const LAST_NUMBER: u16 = 9999;
 
 // Terms whose figures are all in their ranges, and what they stand for.
 #[derive(Clone, Copy)]
@@ -107,14 +102,8 @@ impl TryFrom<LetterTerms> for TermsInRange {
         let kind = LetterKind::try_from(terms.kind)?;
         let target = Month::new(terms.target_month).ok_or(Refusal::OutOfRange)?;
         let sixth = target.later(6).ok_or(Refusal::OutOfRange)?;
-        if terms.number == 0
-            || terms.number > LAST_NUMBER
-            || terms.sum == 0
-            || terms.sum > MOST_SUM
-        {
-            return Err(Refusal::OutOfRange);
-        }
-        if terms.first_day > LAST_DAY || terms.last_day > LAST_DAY {
+        let days = is_day(terms.first_day) && is_day(terms.last_day);
+        if !is_number(terms.number) || !is_sum(terms.sum) || !days {
             return Err(Refusal::OutOfRange);
         }
         Ok(TermsInRange {
