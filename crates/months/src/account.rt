@@ -4,7 +4,7 @@ ghost use Rattle.months.specs.Accounts.{month_exposure, outstanding, paid, settl
 
 use crate::terms::{BillKind, PaymentKind};
 
-#[derive(Clone, Copy)]
+#[derive(Clone, Copy, Debug, PartialEq, Eq)]
 pub struct MonthAccount {
     pub provisional: Option<i64>,
     pub formal: Option<i64>,
@@ -35,10 +35,7 @@ impl MonthAccount {
     fn settlement_due(&self) -> i64
         ensures { result ≡ settlement_due self.now }
     {
-        match self.formal {
-            Some(sum) => sum,
-            None => self.provisional.unwrap_or(0),
-        }
+        self.formal.or(self.provisional).unwrap_or(0)
     }
 
     fn fee_due(&self) -> i64
@@ -99,9 +96,5 @@ fn outstanding(due: i64, paid: u64) -> u64
     ensures value { result ≡ outstanding due paid }
     ensures small { result < 2 ^ 63 }
 {
-    if due < 0 {
-        0
-    } else {
-        (due as u64).saturating_sub(paid)
-    }
+    u64::try_from(due).map_or(0, |due| due.saturating_sub(paid))
 }

@@ -1,10 +1,10 @@
 // The table of a book's months: that of its opening, and the 35 after it.
-ghost use Rattle.std.specs.Prelude.{◌≡◌, ◌-◌, ◌<◌, ◌≤◌, true, take, replicate, sum_by};
+ghost use Rattle.std.specs.Prelude.{◌≡◌, ◌-◌, ◌<◌, ◌≤◌, true, take, replicate, slice_set, sum_by};
 ghost use Rattle.refusals.specs.Conditions.{CarriedOut, Checked};
 ghost use Rattle.tables.specs.Rows.{every_row};
-ghost use Rattle.months.specs.Accounts.{month_exposure, no_account, sound_account, with_bill, with_payment};
+ghost use Rattle.months.specs.Accounts.{month_exposure, no_account, sound_account};
 ghost use Rattle.months.specs.Kinds.{bill_code, payment_code};
-ghost use Rattle.months.specs.Postings.{account_of, bill_conditions, bill_kind, bill_range, billed, month_conditions, paid_with, payment_kind, receipt_conditions, receipt_range, received};
+ghost use Rattle.months.specs.Postings.{bill_conditions, bill_range, billed, month_conditions, receipt_conditions, receipt_range, received};
 
 use crate::account::MonthAccount;
 use crate::terms::{BillKind, BillTerms, PaymentKind, ReceiptTerms};
@@ -23,13 +23,15 @@ const MOST_PAID: u64 = 1_000_000_000_000;
 
 const MOST_SUM: u32 = 3_000_000_000;
 
-#[derive(Clone, Copy)]
+#[derive(Clone, Copy, Debug, PartialEq, Eq)]
 pub struct MonthTable {
+    // The month in which the book was opened.
+    opening: u8,
     rows: [MonthAccount; MONTHS],
 }
 
 // What the account at a place of the table becomes.
-#[derive(Clone, Copy)]
+#[derive(Clone, Copy, Debug, PartialEq, Eq)]
 struct Change {
     index: usize,
     account: MonthAccount,
@@ -49,10 +51,13 @@ impl RowAmount<MonthAccount> for Exposure {
 }
 
 impl MonthTable {
-    pub fn empty() -> MonthTable
-        ensures { result.rows ≡ replicate 36 no_account }
+    // The months of a book that is opened in this one: nothing was billed and nothing paid.
+    pub fn new(opening: u8) -> MonthTable
+        ensures opening { result.opening ≡ opening }
+        ensures rows { result.rows ≡ replicate 36 no_account }
     {
         MonthTable {
+            opening,
             rows: [MonthAccount::EMPTY; MONTHS],
         }
     }
@@ -65,26 +70,23 @@ impl MonthTable {
         total(&self.rows[0..months.min(MONTHS)], &Exposure)
     }
 
-    // A bill, in a book that was opened in this month.
-    pub fn bill(&mut self, opening: u8, terms: BillTerms) -> Result<(), Refusal>
-        ensures { CarriedOut (bill_conditions opening self.old.rows terms) self.old.rows (billed opening self.old.rows terms) result self.new.rows }
+    // A bill takes the place of the earlier one of its kind.
+    pub fn bill(&mut self, terms: BillTerms) -> Result<(), Refusal>
+        ensures carried_out { CarriedOut (bill_conditions self.old.opening self.old.rows terms) self.old.rows (billed self.old.opening self.old.rows terms) result self.new.rows }
+        ensures opening { self.new.opening ≡ self.old.opening }
     {
-        match self.check_bill(opening, terms) {
-            Ok(change) => {
-                self.rows[change.index] = change.account;
-                Ok(())
-            }
-            Err(refusal) => Err(refusal),
-        }
+        let change = self.check_bill(terms)?;
+        self.rows[change.index] = change.account;
+        Ok(())
     }
 
-    fn check_bill(&self, opening: u8, terms: BillTerms) -> Result<Change, Refusal>
-        ensures { Checked (bill_conditions opening self.now.rows terms) result (λ change. (change.index ≡ terms.month - opening) × (change.account ≡ with_bill (bill_kind terms.code) terms.sum (account_of opening terms.month self.now.rows))) }
+    fn check_bill(&self, terms: BillTerms) -> Result<Change, Refusal>
+        ensures { Checked (bill_conditions self.now.opening self.now.rows terms) result (λ change. slice_set self.now.rows change.index change.account ≡ billed self.now.opening self.now.rows terms) }
     {
         let kind = read_bill(terms)?;
-        let index = place_of(opening, terms.month)?;
+        let index = self.place_of(terms.month)?;
         let account = self.rows[index];
-        if let (BillKind::Provisional, Some(_)) = (kind, account.formal) {
+        if kind == BillKind::Provisional && account.formal.is_some() {
             return Err(Refusal::FormalBillStands);
         }
         Ok(Change {
@@ -93,26 +95,23 @@ impl MonthTable {
         })
     }
 
-    // A payment, in a book that was opened in this month.
-    pub fn receive(&mut self, opening: u8, terms: ReceiptTerms) -> Result<(), Refusal>
-        ensures { CarriedOut (receipt_conditions opening self.old.rows terms) self.old.rows (received opening self.old.rows terms) result self.new.rows }
+    // A payment is added to all that was paid of its kind.
+    pub fn receive(&mut self, terms: ReceiptTerms) -> Result<(), Refusal>
+        ensures carried_out { CarriedOut (receipt_conditions self.old.opening self.old.rows terms) self.old.rows (received self.old.opening self.old.rows terms) result self.new.rows }
+        ensures opening { self.new.opening ≡ self.old.opening }
     {
-        match self.check_receipt(opening, terms) {
-            Ok(change) => {
-                self.rows[change.index] = change.account;
-                Ok(())
-            }
-            Err(refusal) => Err(refusal),
-        }
+        let change = self.check_receipt(terms)?;
+        self.rows[change.index] = change.account;
+        Ok(())
     }
 
-    fn check_receipt(&self, opening: u8, terms: ReceiptTerms) -> Result<Change, Refusal>
-        ensures { Checked (receipt_conditions opening self.now.rows terms) result (λ change. (change.index ≡ terms.month - opening) × (change.account ≡ with_payment (payment_kind terms.code) (paid_with opening self.now.rows terms) (account_of opening terms.month self.now.rows))) }
+    fn check_receipt(&self, terms: ReceiptTerms) -> Result<Change, Refusal>
+        ensures { Checked (receipt_conditions self.now.opening self.now.rows terms) result (λ change. slice_set self.now.rows change.index change.account ≡ received self.now.opening self.now.rows terms) }
     {
         let kind = read_receipt(terms)?;
-        let index = place_of(opening, terms.month)?;
+        let index = self.place_of(terms.month)?;
         let account = self.rows[index];
-        let paid = account.paid(kind).saturating_add(terms.sum as u64);
+        let paid = account.paid(kind).saturating_add(u64::from(terms.sum));
         if paid > MOST_PAID {
             return Err(Refusal::TotalTooLarge);
         }
@@ -121,43 +120,40 @@ impl MonthTable {
             account: account.with_payment(kind, paid),
         })
     }
+
+    // Where the account of a month stands.
+    fn place_of(&self, month: u8) -> Result<usize, Refusal>
+        ensures { Checked (month_conditions self.now.opening month) result (λ index. (index ≡ month - self.now.opening) × (index < 36)) }
+    {
+        month
+            .checked_sub(self.opening)
+            .map(usize::from)
+            .filter(|&index| index < MONTHS)
+            .ok_or(Refusal::MonthOutsideBook)
+    }
 }
 
 // The kind of a bill, if every figure is in its range.
+#[tactic(auto, using(crate::proofs::Codes::no_bill), unfolding(crate::specs::Postings::bill_in_range))]
 fn read_bill(terms: BillTerms) -> Result<BillKind, Refusal>
     ensures { Checked (bill_range terms) result (λ kind. bill_code kind ≡ terms.code) }
 {
-    let Some(kind) = BillKind::from_code(terms.code) else {
-        return Err(Refusal::OutOfRange);
-    };
-    if terms.month > LAST_MONTH || terms.sum < -MOST_DUE || terms.sum > MOST_DUE {
-        return Err(Refusal::OutOfRange);
-    }
-    if matches!(kind, BillKind::Fee) && terms.sum < 0 {
+    let kind = BillKind::try_from(terms.code)?;
+    let least = if kind == BillKind::Fee { 0 } else { -MOST_DUE };
+    if terms.month > LAST_MONTH || !(least..=MOST_DUE).contains(&terms.sum) {
         return Err(Refusal::OutOfRange);
     }
     Ok(kind)
 }
 
 // The kind of a payment, if every figure is in its range.
+#[tactic(auto, using(crate::proofs::Codes::no_payment))]
 fn read_receipt(terms: ReceiptTerms) -> Result<PaymentKind, Refusal>
     ensures { Checked (receipt_range terms) result (λ kind. payment_code kind ≡ terms.code) }
 {
-    let Some(kind) = PaymentKind::from_code(terms.code) else {
-        return Err(Refusal::OutOfRange);
-    };
-    if terms.month > LAST_MONTH || terms.sum == 0 || terms.sum > MOST_SUM {
+    let kind = PaymentKind::try_from(terms.code)?;
+    if terms.month > LAST_MONTH || !(1..=MOST_SUM).contains(&terms.sum) {
         return Err(Refusal::OutOfRange);
     }
     Ok(kind)
-}
-
-// Where a month stands in the table of a book that was opened in another.
-fn place_of(opening: u8, month: u8) -> Result<usize, Refusal>
-    ensures { Checked (month_conditions opening month) result (λ index. (index ≡ month - opening) × (index < 36)) }
-{
-    match month.checked_sub(opening) {
-        Some(later) if (later as usize) < MONTHS => Ok(later as usize),
-        _ => Err(Refusal::MonthOutsideBook),
-    }
 }

@@ -1,57 +1,62 @@
 // What the grid company hands in of a month: figures as they come, in their range or not.
-ghost use Rattle.std.specs.Prelude.{◌≡◌, MatchOption, ◌≢◌};
+ghost use Rattle.refusals.specs.Codes.{ReadsCode};
+ghost use Rattle.refusals.specs.declared.Refusal.TheVariants.{OutOfRange};
 ghost use Rattle.months.specs.Kinds.{bill_code, payment_code};
-ghost use Rattle.months.specs.declared.terms.BillKind.{BillKind};
-ghost use Rattle.months.specs.declared.terms.PaymentKind.{PaymentKind};
 
-#[derive(Clone, Copy)]
+use refusals::Refusal;
+
+#[derive(Clone, Copy, Debug, PartialEq, Eq)]
 pub enum BillKind {
     Provisional = 1,
     Formal = 2,
     Fee = 3,
 }
 
-#[derive(Clone, Copy)]
+#[derive(Clone, Copy, Debug, PartialEq, Eq)]
 pub enum PaymentKind {
     Settlement = 1,
     Fee = 2,
 }
 
-#[derive(Clone, Copy)]
+#[derive(Clone, Copy, Debug, PartialEq, Eq)]
 pub struct BillTerms {
     pub month: u8,
     pub code: u8,
     pub sum: i64,
 }
 
-#[derive(Clone, Copy)]
+#[derive(Clone, Copy, Debug, PartialEq, Eq)]
 pub struct ReceiptTerms {
     pub month: u8,
     pub code: u8,
     pub sum: u32,
 }
 
-impl BillKind {
-    pub fn from_code(code: u8) -> Option<BillKind>
-        ensures { MatchOption result ((kind : BillKind) → bill_code kind ≢ code) (λ kind. bill_code kind ≡ code) }
-    {
+impl TryFrom<u8> for BillKind {
+    type Error = Refusal;
+
+    ghost try_from_gives = { ReadsCode bill_code OutOfRange };
+
+    fn try_from(code: u8) -> Result<BillKind, Refusal> {
         match code {
-            1 => Some(BillKind::Provisional),
-            2 => Some(BillKind::Formal),
-            3 => Some(BillKind::Fee),
-            _ => None,
+            1 => Ok(BillKind::Provisional),
+            2 => Ok(BillKind::Formal),
+            3 => Ok(BillKind::Fee),
+            _ => Err(Refusal::OutOfRange),
         }
     }
 }
 
-impl PaymentKind {
-    pub fn from_code(code: u8) -> Option<PaymentKind>
-        ensures { MatchOption result ((kind : PaymentKind) → payment_code kind ≢ code) (λ kind. payment_code kind ≡ code) }
-    {
+impl TryFrom<u8> for PaymentKind {
+    type Error = Refusal;
+
+    ghost try_from_gives = { ReadsCode payment_code OutOfRange };
+
+    fn try_from(code: u8) -> Result<PaymentKind, Refusal> {
         match code {
-            1 => Some(PaymentKind::Settlement),
-            2 => Some(PaymentKind::Fee),
-            _ => None,
+            1 => Ok(PaymentKind::Settlement),
+            2 => Ok(PaymentKind::Fee),
+            _ => Err(Refusal::OutOfRange),
         }
     }
 }

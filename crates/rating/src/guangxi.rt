@@ -1,12 +1,12 @@
 // The Guangxi table: long streaks of good grades give credit, a poor newest grade takes some away.
 ghost use Rattle.std.specs.Prelude.{◌≡◌, Bool};
-ghost use Rattle.rating.specs.Guangxi.{GuangxiRule, better, by_newest, guangxi, highest};
+ghost use Rattle.rating.specs.Guangxi.{GuangxiRule, by_newest, fits, guangxi, highest};
 ghost use Rattle.rating.specs.Table.{in_range};
 
 use crate::{Grade, Grades, RatingPolicy};
 
 // A row of the table: so many of the latest grades are all at least this one.
-#[derive(Clone, Copy)]
+#[derive(Clone, Copy, Debug, PartialEq, Eq)]
 pub struct TableRow {
     pub streak: u8,
     pub least: Grade,
@@ -46,7 +46,7 @@ const ROWS: [TableRow; 6] = [
     },
 ];
 
-#[derive(Clone, Copy)]
+#[derive(Clone, Copy, Debug, PartialEq, Eq)]
 pub struct GuangxiTable;
 
 impl RatingPolicy for GuangxiTable {
@@ -54,6 +54,7 @@ impl RatingPolicy for GuangxiTable {
 
     ghost range = { λ policy. in_range };
 
+    #[tactic(auto, using(crate::specs::Table::highest_small))]
     fn rate(&self, grades: &Grades, _arrears: bool) -> i8
         ensures marked_or_not { (mark : Bool) → result ≡ guangxi grades.now mark }
         ensures rule { GuangxiRule grades.now result }
@@ -66,28 +67,21 @@ impl RatingPolicy for GuangxiTable {
 }
 
 // The highest coefficient of the rows that fit.
+#[tactic(auto, unfolding(crate::specs::Guangxi::rows))]
 fn highest_row(grades: &Grades) -> Option<u8>
     ensures { result ≡ highest grades.now }
 {
-    let mut highest = None;
-    for row in &ROWS {
-        highest = row.better(grades, highest);
-    }
-    highest
+    ROWS.iter()
+        .filter(|row| row.fits(grades))
+        .map(|row| row.coefficient)
+        .max()
 }
 
 impl TableRow {
-    // The higher of the row's coefficient, if the row fits, and the one so far.
-    fn better(&self, grades: &Grades, so_far: Option<u8>) -> Option<u8>
-        ensures { result ≡ better grades.now so_far self.now }
+    fn fits(&self, grades: &Grades) -> bool
+        ensures { result ≡ fits grades.now self.now }
     {
-        if grades.streak(self.least) < self.streak {
-            return so_far;
-        }
-        match so_far {
-            Some(coefficient) => Some(coefficient.max(self.coefficient)),
-            None => Some(self.coefficient),
-        }
+        self.streak <= grades.streak(self.least)
     }
 }
 

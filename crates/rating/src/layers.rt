@@ -9,7 +9,7 @@ use crate::{Grades, RatingPolicy};
 use refusals::Refusal;
 
 // 0 while the arrears mark stands, and else what the policy below says.
-#[derive(Drop)]
+#[derive(Debug, Drop)]
 pub struct ArrearsLayer<P> {
     pub below: P,
 }
@@ -33,7 +33,7 @@ impl<P: RatingPolicy> RatingPolicy for ArrearsLayer<P> {
 }
 
 // The smaller of what the policy below says and a ceiling.
-#[derive(Drop)]
+#[derive(Debug, Drop)]
 pub struct CeilingLayer<P> {
     below: P,
     ceiling: i8,
@@ -46,7 +46,7 @@ impl<P: Drop> CeilingLayer<P> {
     pub fn new(below: P, ceiling: i8) -> Result<CeilingLayer<P>, Refusal>
         ensures { MatchResult result (λ layer. (ceiling_fits ceiling ≡ true) × (layer.below ≡ below) × (layer.ceiling ≡ ceiling)) (λ refusal. (ceiling_fits ceiling ≡ false) × (refusal ≡ OutOfRange)) }
     {
-        if ceiling < 0 || ceiling > 100 {
+        if !(0..=100).contains(&ceiling) {
             return Err(Refusal::OutOfRange);
         }
         Ok(CeilingLayer { below, ceiling })
@@ -56,17 +56,12 @@ impl<P: Drop> CeilingLayer<P> {
 impl<P: RatingPolicy> RatingPolicy for CeilingLayer<P> {
     ghost coefficient = { λ layer. ceiling_layer layer.ceiling (P.coefficient layer.below) };
 
-    ghost range = { first_of (Prim.search rules, Prim.grind (arith, Self.row.coded.inj)) };
+    ghost range = { Prim.grind arith };
 
     fn rate(&self, grades: &Grades, arrears: bool) -> i8
         ensures rated { result ≡ ceiling_layer self.now.ceiling (P.coefficient self.now.below) grades.now arrears }
         ensures smaller { SmallerOf (P.coefficient self.now.below grades.now arrears) self.now.ceiling result }
     {
-        let below = self.below.rate(grades, arrears);
-        if below > self.ceiling {
-            self.ceiling
-        } else {
-            below
-        }
+        self.below.rate(grades, arrears).min(self.ceiling)
     }
 }

@@ -11,7 +11,7 @@ ghost use Rattle.rating.specs.Policies.{Coefficient, InRange, flat_zero};
 ghost use Rattle.rating.specs.declared.Grades.{Grades};
 ghost use Rattle.std.proofs.Common.{rules};
 
-#[derive(Clone, Copy)]
+#[derive(Clone, Copy, Debug, PartialEq, Eq, PartialOrd, Ord)]
 pub enum Grade {
     // No grade was given yet.
     Unrated,
@@ -23,7 +23,7 @@ pub enum Grade {
 }
 
 // The four latest grades.
-#[derive(Clone, Copy)]
+#[derive(Clone, Copy, Debug, PartialEq, Eq)]
 pub struct Grades {
     pub newest: Grade,
     pub second: Grade,
@@ -52,7 +52,7 @@ pub trait RatingPolicy {
 }
 
 // No credit and no malus for anyone.
-#[derive(Clone, Copy)]
+#[derive(Clone, Copy, Debug, PartialEq, Eq)]
 pub struct FlatZero;
 
 impl RatingPolicy for FlatZero {
