@@ -1,7 +1,7 @@
 // The table of a book's months: that of its opening, and the 35 after it.
-ghost use Rattle.std.specs.Prelude.{◌≡◌, ◌-◌, ◌<◌, ◌≤◌, true, take, replicate, slice_set, sum_by};
+ghost use Rattle.std.specs.Prelude.{◌≡◌, ◌-◌, ◌<◌, ◌≤◌, true, length, take, replicate, slice_set, sum_by};
 ghost use Rattle.refusals.specs.Conditions.{CarriedOut, Checked};
-ghost use Rattle.tables.specs.Rows.{every_row};
+ghost use Rattle.std.specs.List.{list_all};
 ghost use Rattle.months.specs.Accounts.{month_exposure, no_account, sound_account};
 ghost use Rattle.months.specs.Kinds.{bill_code, payment_code};
 ghost use Rattle.months.specs.Postings.{bill_conditions, bill_range, billed, month_conditions, receipt_conditions, receipt_range, received};
@@ -9,19 +9,14 @@ ghost use Rattle.months.specs.Postings.{bill_conditions, bill_range, billed, mon
 use crate::account::MonthAccount;
 use crate::terms::{BillKind, BillTerms, PaymentKind, ReceiptTerms};
 use refusals::Refusal;
-use tables::{RowAmount, total};
+use refusals::ranges::{is_month, is_sum};
 
 pub const MONTHS: usize = 36;
-
-// The last month that has a number.
-const LAST_MONTH: u8 = 239;
 
 // No bill is further from 0, in fen, and no receipt takes what is paid for a month past it.
 const MOST_DUE: i64 = 1_000_000_000_000;
 
 const MOST_PAID: u64 = 1_000_000_000_000;
-
-const MOST_SUM: u32 = 3_000_000_000;
 
 #[derive(Clone, Copy, Debug, PartialEq, Eq)]
 pub struct MonthTable {
@@ -36,18 +31,6 @@ struct Change {
     index: usize,
     account: MonthAccount,
     ghost within: { index < 36 },
-}
-
-// What a month adds to the exposure.
-#[derive(Drop)]
-struct Exposure;
-
-impl RowAmount<MonthAccount> for Exposure {
-    ghost adds = { λ _. month_exposure };
-
-    fn amount(&self, row: &MonthAccount) -> u64 {
-        row.exposure()
-    }
 }
 
 impl MonthTable {
@@ -65,9 +48,9 @@ impl MonthTable {
     // The exposure of so many months, from the first on.
     pub fn exposure(&self, months: usize) -> u128
         ensures value { result ≡ sum_by month_exposure (take months self.now.rows) }
-        ensures small { every_row sound_account self.now.rows ≡ true → result ≤ 72_000_000_000_000 }
+        ensures small { list_all sound_account self.now.rows ≡ true → result ≤ 72_000_000_000_000 }
     {
-        total(&self.rows[0..months.min(MONTHS)], &Exposure)
+        exposure_of(&self.rows[..months.min(MONTHS)])
     }
 
     // A bill takes the place of the earlier one of its kind.
@@ -133,6 +116,14 @@ impl MonthTable {
     }
 }
 
+// The exposure of some months.
+fn exposure_of(rows: &[MonthAccount]) -> u128
+    requires { length rows.now ≤ 36 }
+    ensures { result ≡ sum_by month_exposure rows.now }
+{
+    rows.iter().map(|row| u128::from(row.exposure())).sum()
+}
+
 // The kind of a bill, if every figure is in its range.
 #[tactic(auto, using(crate::proofs::Codes::no_bill), unfolding(crate::specs::Postings::bill_in_range))]
 fn read_bill(terms: BillTerms) -> Result<BillKind, Refusal>
@@ -140,7 +131,7 @@ fn read_bill(terms: BillTerms) -> Result<BillKind, Refusal>
 {
     let kind = BillKind::try_from(terms.code)?;
     let least = if kind == BillKind::Fee { 0 } else { -MOST_DUE };
-    if terms.month > LAST_MONTH || !(least..=MOST_DUE).contains(&terms.sum) {
+    if !is_month(terms.month) || !(least..=MOST_DUE).contains(&terms.sum) {
         return Err(Refusal::OutOfRange);
     }
     Ok(kind)
@@ -152,7 +143,7 @@ fn read_receipt(terms: ReceiptTerms) -> Result<PaymentKind, Refusal>
     ensures { Checked (receipt_range terms) result (λ kind. payment_code kind ≡ terms.code) }
 {
     let kind = PaymentKind::try_from(terms.code)?;
-    if terms.month > LAST_MONTH || !(1..=MOST_SUM).contains(&terms.sum) {
+    if !is_month(terms.month) || !is_sum(terms.sum) {
         return Err(Refusal::OutOfRange);
     }
     Ok(kind)

@@ -1,4 +1,4 @@
-use Rattle.std.proofs.Common.{◌≡◌, ℕ, ◌-◌, ◌≤◌, min, List, length, take, sum_by, sym, ap, ◌∙◌, ⊎_elim, arith, rules}
+use Rattle.std.proofs.Common.{◌≡◌, ℕ, ◌≤◌, min, List, length, take, sum_by, sym, ap, ◌∙◌, ⊎_elim, arith, rules}
 use Rattle.std.proofs.lemmas.List.{take_all}
 use Rattle.std.proofs.lemmas.Bool.{cases_lt}
 use Rattle.months.proofs.Exposure.{exposure_small}
@@ -16,7 +16,6 @@ pub returns : goal.returns
 returns c =
     let rows = c.args.self.now.rows in
     let long : length rows ≤ 36 = search rules in
-    let e = take_min c.args.months 36 rows long in
-    let m : c.min.result - 0 ≡ min c.args.months 36 = omega arith in
-    let is = c.total.ensures ∙ ap (λ k. sum_by month_exposure (take k rows)) m ∙ ap (sum_by month_exposure) e in
+    let fewest : c.min.result ≡ min c.args.months 36 = omega arith in
+    let is = c.exposure_of.ensures ∙ ap (sum_by month_exposure) (ap (λ k. take k rows) fewest ∙ take_min c.args.months 36 rows long) in
     record { value = is; small = λ sound. omega (arith, is, long, exposure_small rows c.args.months sound) }
