@@ -1,18 +1,18 @@
 -- Which letter an order chooses.
-use Rattle.std.specs.Prelude.{ℕ, cond, List, slice_index_or}
+use Rattle.std.specs.Prelude.{ℕ, cond, List, Some, None, Option, slice_index_or}
+use Rattle.std.specs.List.{list_any, position_or_len}
 use Rattle.draw_order.specs.Orders.{Order}
 use Rattle.draw_order.specs.declared.LetterKind.{LetterKind}
 use Rattle.letters.specs.Choosing.{goes_first}
 use Rattle.letters.specs.Letters.{no_letter}
 use Rattle.letters.specs.declared.letter.Letter.{Letter}
 use Rattle.letters.specs.declared.letter.Standing.TheVariants.{In}
-use Rattle.tables.specs.Rows.{first_place, some_row}
 
--- The number of the letter that goes first, 0 where none does.
-abbrev pub chosen_number : Order → ℕ → List Letter → ℕ
+-- The number of the letter that goes first, if one does.
+abbrev pub chosen_number : Order → ℕ → List Letter → Option ℕ
 chosen_number before day rows =
     let first = goes_first before day rows in
-    cond (some_row first rows) (slice_index_or rows (first_place first rows) no_letter).number 0
+    cond (list_any first rows) (Some (slice_index_or rows (position_or_len first rows) no_letter).number) None
 
 -- The row of a letter as it was lodged.
 abbrev pub row_in : ℕ → LetterKind → ℕ → ℕ → ℕ → Letter

@@ -7,14 +7,12 @@ use draw_order::{DrawOrder, LetterKind};
 use letters::letter::{Letter, Standing};
 use letters::table::{LetterTable, PLACES};
 
-// The number of the letter that an order puts first, 0 where none is usable.
-pub(crate) fn first_number<O: DrawOrder>(table: &LetterTable, day: u16, order: &O) -> u16
+// The number of the letter that an order puts first, if one is usable.
+pub(crate) fn first_number<O: DrawOrder>(table: &LetterTable, day: u16, order: &O) -> Option<u16>
     ensures { distinct_numbers table.now.rows ≡ true → result ≡ chosen_number (O.before order.now) day table.now.rows }
 {
-    match table.choose(day, order) {
-        Some(place) => table.row(place).number,
-        None => 0,
-    }
+    let place = table.choose(day, order)?;
+    Some(table.row(place).number)
 }
 
 fn lodged(number: u16, kind: LetterKind, first_day: u16, last_day: u16, held: u32) -> Letter

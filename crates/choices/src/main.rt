@@ -8,7 +8,8 @@ use draw_order::EarliestLastDay;
 use draw_order::orders::{InsuranceFirst, SmallestHeld};
 use draws::{first_number, letters};
 use letters::table::LetterTable;
-use rates::{ROWS, Stack, grades_at, name, rate_both, stack};
+use rates::{ROWS, Stack, grades_at, rate_both, stack};
+use rating::Grades;
 use rating::guangxi::GuangxiTable;
 use std::io;
 
@@ -25,10 +26,7 @@ fn print_ceilings(rt: HostRuntime) -> io::Result<()> {
     for ceiling in [-128, -1, 0, 100, 101, 127] {
         match stack(ceiling) {
             Ok(_) => println!(rt; "ceiling {ceiling}: accepted")?,
-            Err(refusal) => {
-                let number = refusal as u8;
-                println!(rt; "ceiling {ceiling}: refused with {number}")?;
-            }
+            Err(refusal) => println!(rt; "ceiling {ceiling}: refused with {refusal}")?,
         }
     }
     Ok(())
@@ -37,10 +35,12 @@ fn print_ceilings(rt: HostRuntime) -> io::Result<()> {
 fn print_rates(rt: HostRuntime, stack: &Stack) -> io::Result<()> {
     for index in 0..ROWS {
         let grades = grades_at(index);
-        let newest = name(grades.newest);
-        let second = name(grades.second);
-        let third = name(grades.third);
-        let fourth = name(grades.fourth);
+        let Grades {
+            newest,
+            second,
+            third,
+            fourth,
+        } = grades;
         let table = rate_both(&GuangxiTable, &grades);
         let ceiling = rate_both(&stack.below, &grades);
         let arrears = rate_both(stack, &grades);
@@ -57,11 +57,12 @@ fn print_draws(rt: HostRuntime) -> io::Result<()> {
     let insured_by_sum = InsuranceFirst {
         below: SmallestHeld,
     };
+    // A day on which no letter is usable shows 0.
     for day in 0..32 {
-        let by_day = first_number(&table, day, &EarliestLastDay);
-        let by_sum = first_number(&table, day, &SmallestHeld);
-        let first = first_number(&table, day, &insured_by_day);
-        let least = first_number(&table, day, &insured_by_sum);
+        let by_day = first_number(&table, day, &EarliestLastDay).unwrap_or(0);
+        let by_sum = first_number(&table, day, &SmallestHeld).unwrap_or(0);
+        let first = first_number(&table, day, &insured_by_day).unwrap_or(0);
+        let least = first_number(&table, day, &insured_by_sum).unwrap_or(0);
         println!(rt; "day {day}: {by_day} {by_sum}, insurance first {first} {least}")?;
     }
     Ok(())

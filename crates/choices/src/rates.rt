@@ -14,7 +14,7 @@ use std::fmt;
 // There are so many rows of four grades.
 pub(crate) const ROWS: u16 = 1296;
 
-#[derive(Clone, Copy)]
+#[derive(Clone, Copy, Debug, PartialEq, Eq)]
 pub struct Rates {
     pub unmarked: i8,
     pub marked: i8,
@@ -51,18 +51,6 @@ fn grade_at(digit: u16) -> Grade
         3 => Grade::A,
         4 => Grade::AA,
         _ => Grade::AAA,
-    }
-}
-
-// As tables of grades write them.
-pub(crate) fn name(grade: Grade) -> &'static str {
-    match grade {
-        Grade::Unrated => "none",
-        Grade::C => "C",
-        Grade::B => "B",
-        Grade::A => "A",
-        Grade::AA => "AA",
-        Grade::AAA => "AAA",
     }
 }
 
