@@ -1,5 +1,5 @@
 // What a party hands in with a posting: figures as they come, in their range or not.
-#[derive(Clone, Copy)]
+#[derive(Clone, Copy, Debug, PartialEq, Eq)]
 pub struct LetterTerms {
     pub number: u16,
     pub kind: u8,
