@@ -1,4 +1,2 @@
-pub mod Bytes
 pub mod OwnBytes
-pub mod Parts
 pub mod Reading

@@ -20,7 +20,7 @@ abbrev pub fields_behind : List FieldName
 fields_behind = Party ∷ Number ∷ Code ∷ Sum ∷ Day ∷ LastDay ∷ Month ∷ []
 
 -- How many bytes they have.
-abbrev pub fields_length : ℕ → ℕ
+unfoldable pub fields_length : ℕ → ℕ
 fields_length map = sum_by (field_length map) fields_behind
 
 -- How many bytes those of them have that come before a field: those with a lower bit.

@@ -1,7 +1,10 @@
 // What can be wrong with a field and with a record. A field's fault is turned into its record's.
-ghost use Rattle.std.specs.Prelude.{◌≡◌};
+ghost use Rattle.std.specs.Prelude.{◌≡◌, Some, codes, decimal};
 ghost use Rattle.records.specs.Faults.{fault_number};
 ghost use Rattle.records.specs.declared.fault.RecordFault.TheVariants.{Cut};
+
+use std::error::Error;
+use std::fmt;
 
 #[derive(Clone, Copy, Debug, PartialEq, Eq)]
 pub enum FieldFault {
@@ -38,3 +41,25 @@ impl From<FieldFault> for RecordFault {
         RecordFault::Cut
     }
 }
+
+impl fmt::Display for FieldFault {
+    ghost output = { λ _. Some (codes "the bytes end before the field does") };
+
+    fn fmt<W: fmt::Write>(&self, f: &mut fmt::Formatter<W>) -> fmt::Result {
+        write!(f, "the bytes end before the field does")
+    }
+}
+
+impl Error for FieldFault {}
+
+// A fault of a record is written as its number.
+impl fmt::Display for RecordFault {
+    ghost output = { λ fault. Some (decimal (fault_number fault)) };
+
+    fn fmt<W: fmt::Write>(&self, f: &mut fmt::Formatter<W>) -> fmt::Result {
+        let number = self.number();
+        write!(f, "{number}")
+    }
+}
+
+impl Error for RecordFault {}

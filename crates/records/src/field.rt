@@ -1,6 +1,7 @@
 // The fields of a record. Each is read from the part of the batch that starts with it, and hands on what follows it.
-ghost use Rattle.std.specs.Prelude.{◌≡◌, ℕ, ◌<◌, ◌≤◌, List, length, drop, if◌then◌else◌, MatchResult};
+ghost use Rattle.std.specs.Prelude.{◌≡◌, ℕ, List, take, if◌then◌else◌};
 ghost use Rattle.records.specs.Fields.{big_endian, stands};
+ghost use Rattle.records.specs.Readers.{TakesFirst};
 
 use crate::fault::FieldFault;
 
@@ -13,13 +14,12 @@ pub trait Field: Sized {
     ghost reads: { List ℕ → Self };
 
     // What stands for it where a record does not have it.
-    ghost absent: { Self };
+    ghost ABSENT: { Self };
 
-    fn none() -> Self
-        ensures { result ≡ absent };
+    const ABSENT: Self;
 
     fn take(part: &[u8]) -> Result<(Self, &[u8]), FieldFault>
-        ensures { MatchResult result (λ p. (width ≤ length part.now) × (p.0 ≡ reads part.now) × (p.1.now ≡ drop width part.now)) (λ _. length part.now < width) };
+        ensures { TakesFirst width (reads part.now) part.now result };
 }
 
 impl Field for u8 {
@@ -27,17 +27,13 @@ impl Field for u8 {
 
     ghost reads = { big_endian 1 };
 
-    ghost absent = { 0 };
+    ghost ABSENT = { 0 };
 
-    fn none() -> u8 {
-        0u8
-    }
+    const ABSENT: u8 = 0;
 
     fn take(part: &[u8]) -> Result<(u8, &[u8]), FieldFault> {
-        match part {
-            [byte, rest @ ..] => Ok((*byte, rest)),
-            _ => Err(FieldFault::Cut),
-        }
+        let (bytes, rest) = take_bytes(part)?;
+        Ok((u8::from_be_bytes(bytes), rest))
     }
 }
 
@@ -46,17 +42,13 @@ impl Field for u16 {
 
     ghost reads = { big_endian 2 };
 
-    ghost absent = { 0 };
+    ghost ABSENT = { 0 };
 
-    fn none() -> u16 {
-        0u16
-    }
+    const ABSENT: u16 = 0;
 
     fn take(part: &[u8]) -> Result<(u16, &[u8]), FieldFault> {
-        match part {
-            [a, b, rest @ ..] => Ok((u16::from_be_bytes([*a, *b]), rest)),
-            _ => Err(FieldFault::Cut),
-        }
+        let (bytes, rest) = take_bytes(part)?;
+        Ok((u16::from_be_bytes(bytes), rest))
     }
 }
 
@@ -65,22 +57,26 @@ impl Field for u32 {
 
     ghost reads = { big_endian 4 };
 
-    ghost absent = { 0 };
+    ghost ABSENT = { 0 };
 
-    fn none() -> u32 {
-        0u32
-    }
+    const ABSENT: u32 = 0;
 
     fn take(part: &[u8]) -> Result<(u32, &[u8]), FieldFault> {
-        match part {
-            [a, b, c, d, rest @ ..] => Ok((u32::from_be_bytes([*a, *b, *c, *d]), rest)),
-            _ => Err(FieldFault::Cut),
-        }
+        let (bytes, rest) = take_bytes(part)?;
+        Ok((u32::from_be_bytes(bytes), rest))
     }
 }
 
+// So many of a part's first bytes, and what follows them.
+fn take_bytes<const N: usize>(part: &[u8]) -> Result<([u8; N], &[u8]), FieldFault>
+    ensures { TakesFirst N (take N part.now) part.now result }
+{
+    let (bytes, rest) = part.split_first_chunk::<N>().ok_or(FieldFault::Cut)?;
+    Ok((*bytes, rest))
+}
+
 // The fields that a record can have. A field's bit in the map is its place in this list.
-#[derive(Clone, Copy)]
+#[derive(Clone, Copy, Debug, PartialEq, Eq)]
 pub enum FieldName {
     Kind,
     Party,
@@ -102,12 +98,12 @@ impl FieldName {
 
     // The field, if its bit stands in the map.
     pub fn take<F: Field>(self, map: u16, part: &[u8]) -> Result<(F, &[u8]), FieldFault>
-        ensures { MatchResult result (λ p. ((if stands map self then F.width else 0) ≤ length part.now) × (p.0 ≡ (if stands map self then F.reads part.now else F.absent)) × (p.1.now ≡ drop (if stands map self then F.width else 0) part.now)) (λ _. length part.now < (if stands map self then F.width else 0)) }
+        ensures { TakesFirst (if stands map self then F.width else 0) (if stands map self then F.reads part.now else F.ABSENT) part.now result }
     {
         if self.stands_in(map) {
             F::take(part)
         } else {
-            Ok((F::none(), part))
+            Ok((F::ABSENT, part))
         }
     }
 }

@@ -1,8 +1,11 @@
 // The kinds of records.
 ghost use Rattle.std.specs.Prelude.{◌≡◌, Some};
 ghost use Rattle.std.proofs.Math.Utf8.{encode};
+ghost use Rattle.std.specs.Option.{ok_or};
 ghost use Rattle.records.specs.Kinds.{kind_letter, kind_map, kind_of};
+ghost use Rattle.records.specs.declared.fault.RecordFault.TheVariants.{UnknownKind};
 
+use crate::fault::RecordFault;
 use std::fmt;
 
 #[derive(Clone, Copy, Debug, PartialEq, Eq)]
@@ -12,16 +15,6 @@ pub enum Kind {
 }
 
 impl Kind {
-    pub fn from_letter(letter: char) -> Option<Kind>
-        ensures { result ≡ kind_of letter }
-    {
-        match letter {
-            'N' => Some(Kind::Opening),
-            'L' => Some(Kind::Lodge),
-            _ => None,
-        }
-    }
-
     pub fn letter(self) -> char
         ensures { result ≡ kind_letter self }
     {
@@ -38,6 +31,21 @@ impl Kind {
         match self {
             Kind::Opening => 0x0023,
             Kind::Lodge => 0x00ff,
+        }
+    }
+}
+
+// The kind that has a letter.
+impl TryFrom<char> for Kind {
+    type Error = RecordFault;
+
+    ghost try_from_gives = { λ letter r. r ≡ ok_or (kind_of letter) UnknownKind };
+
+    fn try_from(letter: char) -> Result<Kind, RecordFault> {
+        match letter {
+            'N' => Ok(Kind::Opening),
+            'L' => Ok(Kind::Lodge),
+            _ => Err(RecordFault::UnknownKind),
         }
     }
 }

@@ -1,6 +1,7 @@
 // A record, and how it is read.
-ghost use Rattle.std.specs.Prelude.{◌≡◌, ◌<◌, ◌≤◌, length, drop, Some, None, MatchResult};
-ghost use Rattle.refusals.specs.Conditions.{first_given};
+ghost use Rattle.std.specs.Prelude.{◌≡◌};
+ghost use Rattle.refusals.specs.Conditions.{Checked};
+ghost use Rattle.records.specs.Readers.{HandsOn, TakesFirst};
 ghost use Rattle.records.specs.Records.{OwnBytesDecide, body_faults, body_in, body_length, entry_kind, fields_in, fields_length, record_faults, record_in, record_length, record_of};
 
 use crate::fault::{FieldFault, RecordFault};
@@ -9,13 +10,13 @@ use crate::kind::Kind;
 use ledger::terms::LetterTerms;
 
 // What a record asks for.
-#[derive(Clone, Copy)]
+#[derive(Clone, Copy, Debug, PartialEq, Eq)]
 pub enum Entry {
     Opening { day: u16 },
     Lodge(LetterTerms),
 }
 
-#[derive(Clone, Copy)]
+#[derive(Clone, Copy, Debug, PartialEq, Eq)]
 pub struct Record {
     pub party: u8,
     pub entry: Entry,
@@ -35,7 +36,7 @@ impl Entry {
 // The record that a part of a batch starts with, and the part behind it.
 pub fn read_record(part: &[u8]) -> Result<(Record, &[u8]), RecordFault>
     ensures alone { OwnBytesDecide part.now }
-    ensures reads { MatchResult result (λ p. (first_given (record_faults part.now) ≡ None) × (p.0 ≡ record_in part.now) × (p.1.now ≡ drop (record_length part.now) part.now)) (λ fault. first_given (record_faults part.now) ≡ Some fault) }
+    ensures reads { Checked (record_faults part.now) result (HandsOn (record_length part.now) (record_in part.now) part.now) }
 {
     match part {
         [high, low, rest @ ..] => read_body(u16::from_be_bytes([*high, *low]), rest),
@@ -45,15 +46,13 @@ pub fn read_record(part: &[u8]) -> Result<(Record, &[u8]), RecordFault>
 
 // The rest of a record behind its map.
 fn read_body(map: u16, part: &[u8]) -> Result<(Record, &[u8]), RecordFault>
-    ensures { MatchResult result (λ p. (first_given (body_faults map part.now) ≡ None) × (p.0 ≡ body_in map part.now) × (p.1.now ≡ drop (body_length map) part.now)) (λ fault. first_given (body_faults map part.now) ≡ Some fault) }
+    ensures { Checked (body_faults map part.now) result (HandsOn (body_length map) (body_in map part.now) part.now) }
 {
     if !FieldName::Kind.stands_in(map) {
         return Err(RecordFault::UnknownKind);
     }
     let (letter, part) = u8::take(part)?;
-    let Some(kind) = Kind::from_letter(letter as char) else {
-        return Err(RecordFault::UnknownKind);
-    };
+    let kind = Kind::try_from(char::from(letter))?;
     if map != kind.map() {
         return Err(RecordFault::WrongMap);
     }
@@ -62,7 +61,7 @@ fn read_body(map: u16, part: &[u8]) -> Result<(Record, &[u8]), RecordFault>
 }
 
 // What the fields behind the kind hold, 0 where the record does not have one.
-#[derive(Clone, Copy)]
+#[derive(Clone, Copy, Debug, PartialEq, Eq)]
 pub struct Fields {
     pub party: u8,
     pub number: u16,
@@ -97,8 +96,9 @@ impl Fields {
 }
 
 // The fields behind the kind whose bit stands, lowest bit first.
+#[tactic(auto, unfolding(crate::specs::Records::fields_length))]
 fn read_fields(map: u16, part: &[u8]) -> Result<(Fields, &[u8]), FieldFault>
-    ensures { MatchResult result (λ p. (fields_length map ≤ length part.now) × (p.0 ≡ fields_in map part.now) × (p.1.now ≡ drop (fields_length map) part.now)) (λ _. length part.now < fields_length map) }
+    ensures { TakesFirst (fields_length map) (fields_in map part.now) part.now result }
 {
     let (party, part) = FieldName::Party.take(map, part)?;
     let (number, part) = FieldName::Number.take(map, part)?;
