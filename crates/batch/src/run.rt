@@ -1,6 +1,7 @@
 // The run of a batch: record after record is read, posted and answered, up to the first fault.
 ghost use Rattle.std.specs.Prelude.{◌≡◌, ◌+◌, ◌-◌, ◌^◌, ◌<◌, ◌≤◌, true, false, length, drop, Some, None, MatchResult, ◌==◌};
 ghost use Rattle.refusals.specs.Conditions.{Checked};
+ghost use Rattle.records.specs.Readers.{HandsOn};
 ghost use Rattle.records.specs.Records.{record_in, record_length};
 ghost use Rattle.batch.specs.Runs.{Ran, answer_to, book_after_record, faults, located, turn_faults};
 ghost use Rattle.records.specs.declared.fault.RecordFault.TheVariants.{ListFull};
@@ -53,7 +54,7 @@ impl<R: RatingPolicy, O: DrawOrder> House<'_, R, O> {
         book: &mut Book,
         number: usize,
     ) -> Result<(Answer, &'p [u8]), RecordFault>
-        ensures fault { Checked (faults number book.old.figures part.now) result (λ p. (p.0 ≡ answer_to (R.coefficient self.now.rating.now) number book.old.figures (record_in part.now)) × (p.1.now ≡ drop (record_length part.now) part.now)) }
+        ensures fault { Checked (faults number book.old.figures part.now) result (HandsOn (record_length part.now) (answer_to (R.coefficient self.now.rating.now) number book.old.figures (record_in part.now)) part.now) }
         ensures after { MatchResult result (λ _. book.new.figures ≡ book_after_record book.old.figures (record_in part.now)) (λ _. book.new.figures ≡ book.old.figures) }
     {
         let (record, behind) = read_record(part)?;

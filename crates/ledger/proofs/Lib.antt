@@ -1,4 +1,3 @@
 pub mod Limits
 pub mod Lodging
-pub mod Products
 pub mod Settling

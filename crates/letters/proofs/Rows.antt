@@ -1,6 +1,6 @@
 -- What the library's search of the rows finds, and the first row that passes a test.
 use Rattle.std.proofs.Common.{◌≡◌, ℕ, ◌<◌, Bool, true, false, cond, ltb, List, length, get_or, Some, None, position, sym, refl, subst, ⊎_elim, arith}
-use Rattle.std.proofs.lemmas.Bool.{both_ways, cases_Bool, cases_lt, ltb-false, ltb-true}
+use Rattle.std.proofs.lemmas.Bool.{cases_Bool, ltb-false, ltb-true}
 use Rattle.std.proofs.lemmas.List.Elements.{All-from_get_or, All-get_or}
 use Rattle.std.proofs.lemmas.List.Folds.{list_any_at, list_any_none}
 use Rattle.std.proofs.lemmas.List.Sums.{fails_before_first, passes_at_first, position_or_len_is, AllPass-from_list_all, list_all-from_AllPass}
@@ -21,10 +21,6 @@ module _ (p : Letter → Bool) (rows : List Letter) where
 
   pub absent : None ≡ position p rows → list_any p rows ≡ false
   absent is = subst (FindsFirst p rows (λ i. i)) (sym is) (by_order _ refl)
-
-  -- where some row passes, the first that does lies within the table
-  pub some_within : list_any p rows ≡ true → position_or_len p rows < length rows
-  some_within some = ⊎_elim (λ h. h) (λ h. absurd (both_ways _ (no_row_from (λ i within. fails_before_first p rows i no_letter (omega (arith, h, within)))) some)) (cases_lt (position_or_len p rows) (length rows))
 
   pub every_row_from : ((i : ℕ) → i < length rows → p (get_or rows i no_letter) ≡ true) → list_all p rows ≡ true
   every_row_from each = list_all-from_AllPass p rows (All-from_get_or (λ row. p row ≡ true) rows no_letter each)

@@ -49,6 +49,5 @@ fn credit_part(usage: u32, coefficient: i8) -> i64
     ensures value { result ≡ pos (8 * usage) *ℤ coefficient }
     ensures small { (negsuc (2 ^ 42) ≤ℤ result) × (result ≤ℤ pos (2 ^ 42)) }
 {
-    let hundredth = (8 * usage as u64) as i64;
-    hundredth * coefficient as i64
+    8 * i64::from(usage) * i64::from(coefficient)
 }

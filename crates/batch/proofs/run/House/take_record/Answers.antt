@@ -21,6 +21,6 @@ returns-in_err-answer g c =
     let posted = c.in_err-answer.ensures in
     let p = err_from_is_err_and c.from_residual-in_err-answer.result c.from_residual-in_err-answer.ensures.1 in
     rw (p.1, p.2) (record {
-      fault = joined (record_faults bytes) turn ∙ ap (λ given. or_else given (first_given turn)) read.0 ∙ ap (λ r. first_given (turn_faults c.args.number c.args.book.now.figures r)) (sym read.1) ∙ posted.fault;
+      fault = joined (record_faults bytes) turn ∙ ap (λ given. or_else given (first_given turn)) read.0 ∙ ap (λ r. first_given (turn_faults c.args.number c.args.book.now.figures r)) (sym read.1.0) ∙ posted.fault;
       after = posted.after;
     })

@@ -3,9 +3,6 @@ use Rattle.letters.proofs.Choosing.{Leads, first_found, first_of, passed_over, s
 use Rattle.letters.proofs.table.choosing.first_usable.Goals as goal
 use Rattle.letters.proofs.table.choosing.first_usable.Goals.{then-is_usable, else-is_usable}
 
-pub loop-index-init : goal.loop-index-init
-loop-index-init g c = λ other h. absurd (omega arith)
-
 pub loop-index-preserved : goal.loop-index-preserved
 loop-index-preserved g c =
     let order = c.args.order.now in

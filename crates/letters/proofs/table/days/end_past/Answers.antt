@@ -1,6 +1,6 @@
-use Rattle.std.proofs.Common.{◌≡◌, ℕ, zero, suc, ◌<◌, List, [], ◌∷◌, ◌++◌, map, length, get_or, take, drop, set, sym, refl, ap, ◌∙◌, append-nil, le_of_suc-le-suc, arith, rules}
+use Rattle.std.proofs.Common.{◌≡◌, ℕ, zero, suc, ◌<◌, List, [], ◌∷◌, ◌++◌, map, length, get_or, take, drop, set, sym, refl, ap, ◌∙◌, le_of_suc-le-suc, arith, rules}
 use Rattle.std.proofs.lemmas.List.Edits.{map_over_more}
-use Rattle.std.proofs.lemmas.List.{drop_all, get_or_default, take_all}
+use Rattle.std.proofs.lemmas.List.{get_or_default}
 use Rattle.std.proofs.lemmas.List.Folds.{list_all_at}
 use Rattle.letters.specs.Letters.{balanced, no_letter}
 use Rattle.letters.specs.Sums.{after_day}
@@ -27,11 +27,3 @@ loop-row-preserved c =
     let i = c.loop-row.row-index in
     let within : i < length rows = omega arith in
     ap (set rows i) c.in_ok-row.ensures ∙ map_over_more (after_day c.args.day) c.args.rows.now rows i _ c.loop-row-test.true c.loop-row.invariant (get_or_default rows i _ _ within)
-
-pub returns : goal.returns
-returns c =
-    let rows = c.args.rows.now in
-    let i = c.loop-row.row-index in
-    let f = after_day c.args.day in
-    let end = c.loop-row-test.false in
-    c.loop-row.invariant ∙ (λ k. map f (take_all i rows end k) ++ drop_all i rows end k) ∙ append-nil (map f rows)
