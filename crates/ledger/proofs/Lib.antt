@@ -1,3 +1,4 @@
 pub mod Limits
 pub mod Lodging
+pub mod Products
 pub mod Settling

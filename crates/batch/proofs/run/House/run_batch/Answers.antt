@@ -3,7 +3,7 @@ use Rattle.refusals.specs.Conditions.{first_given}
 use Rattle.std.proofs.lemmas.List.{set-get_or}
 use Rattle.std.proofs.lemmas.Result.{MatchResult-at_err, MatchResult-at_ok, err_from_is_err_and}
 use Rattle.batch.proofs.Order.{leaves}
-use Rattle.batch.proofs.Running.{begins, at_end, at_full, at_fault, one_more, located_err, located_ok}
+use Rattle.batch.proofs.Running.{at_end, at_full, at_fault, one_more, located_err, located_ok}
 use Rattle.records.specs.Records.{record_in}
 use Rattle.batch.specs.Runs.{answer_to, faults}
 use Rattle.batch.specs.declared.fault.BatchFault.TheVariants.{AtRecord}
@@ -12,9 +12,6 @@ use Rattle.batch.proofs.run.House.run_batch.Goals as goal
 
 number_of : {position : Position} {number offset : ℕ} → position ≡ record { number = number; offset = offset } → position.number ≡ number
 number_of is = ap (λ (p : Position). p.number) is
-
-pub loop-count-init : goal.loop-count-init
-loop-count-init g c = begins _ _ _ _ _
 
 pub returns-then-is_empty : goal.returns-then-is_empty
 returns-then-is_empty g c = leaves _ _ c.args.answers.now c.args.batch.now c.args.book.now.figures (at_end c.loop-count.invariant (sym c.is_empty.ensures ∙ c.if-is_empty.true)) refl (set-get_or _ _ _) refl

@@ -1,17 +1,10 @@
-use Rattle.std.proofs.Common.{sym, refl, ap, ◌∙◌}
+use Rattle.std.proofs.Common.{sym, ap, ◌∙◌}
 use Rattle.refusals.proofs.Joining.{joined, or_else}
 use Rattle.refusals.specs.Conditions.{first_given}
 use Rattle.std.proofs.lemmas.Result.{err_from_is_err_and}
 use Rattle.records.specs.Records.{record_faults, record_in}
 use Rattle.batch.specs.Runs.{turn_faults}
 use Rattle.batch.proofs.run.House.take_record.Goals as goal
-
-pub returns-in_err-record : goal.returns-in_err-record
-returns-in_err-record g c =
-    let bytes = c.args.part.now in
-    let turn = turn_faults c.args.number c.args.book.now.figures (record_in bytes) in
-    let p = err_from_is_err_and c.from_residual.result c.from_residual.ensures.1 in
-    rw (p.1, p.2) (record { fault = joined (record_faults bytes) turn ∙ ap (λ given. or_else given (first_given turn)) c.in_err-record.ensures.reads; after = refl })
 
 pub returns-in_err-answer : goal.returns-in_err-answer
 returns-in_err-answer g c =
