@@ -1,6 +1,7 @@
 // The table of letters: 24 rows, each free or with a letter.
-ghost use Rattle.std.specs.Prelude.{◌≡◌, ◌<◌, position, replicate, slice_index_or, slice_set};
-ghost use Rattle.std.specs.List.{list_any};
+ghost use Rattle.std.specs.Prelude.{◌≡◌, ◌<◌, true, false, MatchOption, replicate, slice_index_or, slice_set};
+ghost use Rattle.std.specs.Fn.{FnReturnsAt};
+ghost use Rattle.std.specs.List.{AllWithin, HoldsAt, list_any};
 ghost use Rattle.letters.specs.Letters.{FindsFirst, numbered, followed_by, free, held_total, held_on, starts_in_time, no_letter};
 
 use crate::letter::Letter;
@@ -38,35 +39,26 @@ impl LetterTable {
     }
 
     // Where the letter with this number stands.
-    #[tactic(auto, using(crate::proofs::Rows::found, crate::proofs::Rows::absent))]
     pub fn find(&self, number: u16) -> Option<Place>
         ensures { FindsFirst (numbered number) self.now.rows (λ p. p.index) result }
     {
-        let index = self.index_of(number)?;
-        Some(Place { index })
-    }
-
-    fn index_of(&self, number: u16) -> Option<usize>
-        ensures { result ≡ position (numbered number) self.now.rows }
-    {
-        self.rows
-            .iter()
-            .position(|row| row.is_booked() && row.number == number)
+        self.first(|row| row.is_booked() && row.number == number)
     }
 
     // The first free place.
-    #[tactic(auto, using(crate::proofs::Rows::found, crate::proofs::Rows::absent))]
     pub fn free_place(&self) -> Option<Place>
         ensures { FindsFirst free self.now.rows (λ p. p.index) result }
     {
-        let index = self.free_index()?;
-        Some(Place { index })
+        self.first(|row| !row.is_booked())
     }
 
-    fn free_index(&self) -> Option<usize>
-        ensures { result ≡ position free self.now.rows }
+    // The place of the first row that passes a test.
+    fn first<F: Fn(&Letter) -> bool>(&self, passes: F) -> Option<Place>
+        requires { F.IsAlwaysCallable passes }
+        ensures { MatchOption result (AllWithin (λ row. FnReturnsAt F.Fn passes row false) self.now.rows 0 24) (λ p. HoldsAt (λ row. FnReturnsAt F.Fn passes row true) self.now.rows p.index × AllWithin (λ row. FnReturnsAt F.Fn passes row false) self.now.rows 0 p.index) }
     {
-        self.rows.iter().position(|row| !row.is_booked())
+        let index = self.rows.iter().position(|row| passes(row))?;
+        Some(Place { index })
     }
 
     // Whether a letter may start on this day, its target month starting on that one.
