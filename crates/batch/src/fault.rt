@@ -36,7 +36,7 @@ impl From<FaultAt> for BatchFault {
 }
 
 impl BatchFault {
-    // The record's number, the fault's number and the offset.
+    // The record's number, the fault's number and the offset, as the fault's line shows them.
     pub fn figures(self) -> (usize, u8, usize)
         ensures { result ≡ fault_figures self }
     {

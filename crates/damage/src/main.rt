@@ -17,6 +17,7 @@ fn main(rt: HostRuntime) -> io::Result<()> {
         let trial = run_fresh(&batch[..length]);
         println!(rt; "cut to {length}: {trial}")?;
     }
+    // Each turn changes the byte at the index, and runs the whole batch.
     for index in 0..batch.len() {
         let tally = tally_changes(batch.as_mut_slice(), index);
         println!(rt; "byte {index} changed: {tally}")?;

@@ -24,7 +24,8 @@ impl Tally {
     }
 }
 
-// The place of the count for a run that ended so: 0 without a fault, else the fault's number.
+// The place of the count for a run that ended so: 0 without a fault, else the fault's number. The counts are printed in this
+// order.
 fn ending(fault: Option<BatchFault>) -> usize
     ensures value { result ≡ ending fault }
     ensures small { result < 7 }

@@ -29,7 +29,7 @@ pub fn run_fresh(batch: &[u8]) -> Trial
     }
 }
 
-// What the letter with a number holds, 0 where the book has none.
+// What the letter with a number holds: nothing where the book has none.
 fn held_by(book: &Book, number: u16) -> u32
     ensures { result ≡ letter_holds number book.now.figures }
 {

@@ -2,6 +2,7 @@
 #[derive(Clone, Copy, Debug, PartialEq, Eq)]
 pub struct LetterTerms {
     pub number: u16,
+    // A code, since one that stands for no kind is refused by the posting.
     pub kind: u8,
     pub sum: u32,
     pub first_day: u16,

@@ -21,6 +21,7 @@ pub enum PaymentKind {
 #[derive(Clone, Copy, Debug, PartialEq, Eq)]
 pub struct BillTerms {
     pub month: u8,
+    // A code that stands for no kind is refused by the posting.
     pub code: u8,
     pub sum: i64,
 }
@@ -28,6 +29,7 @@ pub struct BillTerms {
 #[derive(Clone, Copy, Debug, PartialEq, Eq)]
 pub struct ReceiptTerms {
     pub month: u8,
+    // A code that stands for no kind is refused by the posting.
     pub code: u8,
     pub sum: u32,
 }

@@ -18,6 +18,7 @@ pub enum Entry {
 
 #[derive(Clone, Copy, Debug, PartialEq, Eq)]
 pub struct Record {
+    // As it comes: an unknown party is refused by the posting.
     pub party: u8,
     pub entry: Entry,
 }
@@ -60,7 +61,8 @@ fn read_body(map: u16, part: &[u8]) -> Result<(Record, &[u8]), RecordFault>
     Ok((fields.record(kind), part))
 }
 
-// What the fields behind the kind hold, 0 where the record does not have one.
+// What the fields behind the kind hold, 0 where the record does not have one. The map is its kind's by then, so that no such
+// field is looked at.
 #[derive(Clone, Copy, Debug, PartialEq, Eq)]
 pub struct Fields {
     pub party: u8,
