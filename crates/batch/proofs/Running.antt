@@ -53,9 +53,6 @@ pub record Along (policy : Coefficient) (order : Order) (whole : Run) (bytes : L
   pub within : length rest ≤ length bytes
   pub same : whole ≡ behind (take i places) (run policy order (drop i places) i (length bytes - length rest) rest f)
 
-pub begins : (policy : Coefficient) (order : Order) (places : List Answer) (bytes : List ℕ) (f : Figures) → Along policy order (run policy order places 0 0 bytes f) bytes 0 places bytes f
-begins policy order places bytes f = record { within = omega arith; same = ap (λ offset. run policy order places 0 offset bytes f) (omega arith) }
-
 module _ {policy : Coefficient} {order : Order} {whole : Run} {bytes : List ℕ} {i : ℕ} {places : List Answer} {rest : List ℕ} {f : Figures} (s : Along policy order whole bytes i places rest f) where
   -- the offset of the next record
   abbrev here : ℕ

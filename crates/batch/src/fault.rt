@@ -36,17 +36,23 @@ impl From<FaultAt> for BatchFault {
 }
 
 impl BatchFault {
+    pub fn number(self) -> u8
+        ensures { result ≡ (fault_figures self).1 }
+    {
+        match self {
+            BatchFault::AtRecord(found) => found.fault.number(),
+            BatchFault::TooLong => 6,
+        }
+    }
+
     // The record's number, the fault's number and the offset, as the fault's line shows them.
     pub fn figures(self) -> (usize, u8, usize)
         ensures { result ≡ fault_figures self }
     {
+        let number = self.number();
         match self {
-            BatchFault::AtRecord(found) => (
-                found.position.number,
-                found.fault.number(),
-                found.position.offset,
-            ),
-            BatchFault::TooLong => (0, 6, 0),
+            BatchFault::AtRecord(found) => (found.position.number, number, found.position.offset),
+            BatchFault::TooLong => (0, number, 0),
         }
     }
 }

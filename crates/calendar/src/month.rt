@@ -1,7 +1,8 @@
 // A month of the ledger.
-ghost use Rattle.std.specs.Prelude.{◌≡◌, ◌+◌, ◌<◌, ◌≤◌, MatchOption};
+ghost use Rattle.std.specs.Prelude.{◌≡◌, ℕ, ◌+◌, ◌<◌, ◌≤◌, MatchOption};
 ghost use Rattle.calendar.specs.Calendar.{first_day_of, last_day_of};
 
+use std::marker::Model;
 use crate::day::Day;
 
 // The last month that has a number.
@@ -13,12 +14,21 @@ const DAYS_BEFORE: [u16; 12] = [0, 31, 59, 90, 120, 151, 181, 212, 243, 273, 304
 #[derive(Clone, Copy, Debug, PartialEq, Eq, PartialOrd, Ord)]
 pub struct Month {
     pub(crate) number: u8,
-    ghost within: { number ≤ 239 },
+}
+
+impl Model for Month {
+    ghost Value = { ℕ };
+
+    ghost view = { λ month. month.number };
+
+    ghost invariant = { λ month. month.number ≤ 239 };
+
+    ghost inverse = { λ n. record { number = n } };
 }
 
 impl Month {
     pub fn new(number: u8) -> Option<Month>
-        ensures { MatchOption result (239 < number) (λ m. m.number ≡ number) }
+        ensures { MatchOption result (239 < number) (λ m. m ≡ number) }
     {
         if number > LAST_MONTH {
             return None;
@@ -27,20 +37,20 @@ impl Month {
     }
 
     pub fn number(self) -> u8
-        ensures { result ≡ self.number }
+        ensures { result ≡ self }
     {
         self.number
     }
 
     // The month so many months after this one.
     pub fn later(self, months: u8) -> Option<Month>
-        ensures { MatchOption result (239 < self.number + months) (λ m. m.number ≡ self.number + months) }
+        ensures { MatchOption result (239 < self + months) (λ m. m ≡ self + months) }
     {
         Month::new(self.number.checked_add(months)?)
     }
 
     pub fn first_day(self) -> Day
-        ensures { result.number ≡ first_day_of self.number }
+        ensures { result ≡ first_day_of self }
     {
         Day {
             number: start(self.number),
@@ -48,7 +58,7 @@ impl Month {
     }
 
     pub fn last_day(self) -> Day
-        ensures { result.number ≡ last_day_of self.number }
+        ensures { result ≡ last_day_of self }
     {
         Day {
             number: start(self.number + 1) - 1,

@@ -30,7 +30,7 @@ fn ending(fault: Option<BatchFault>) -> usize
     ensures value { result ≡ ending fault }
     ensures small { result < 7 }
 {
-    fault.map_or(0, |fault| usize::from(fault.figures().1))
+    fault.map_or(0, |fault| usize::from(fault.number()))
 }
 
 // Runs a batch with one byte changed to each other value in turn, and leaves the batch as it was.
@@ -41,8 +41,8 @@ pub(crate) fn tally_changes(batch: &mut [u8], index: usize) -> Tally
 {
     let original = batch[index];
     let mut tally = Tally { counts: [0; 7] };
-    for step in 1..256u16 {
-        batch[index] = original.wrapping_add(step as u8);
+    for step in 1..=255u8 {
+        batch[index] = original.wrapping_add(step);
         tally.note(run_fresh(batch).fault);
     }
     batch[index] = original;

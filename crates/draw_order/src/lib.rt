@@ -41,10 +41,7 @@ impl LetterKind {
     pub fn is_insurance(self) -> bool
         ensures { result ≡ insured self }
     {
-        match self {
-            LetterKind::BankSingle | LetterKind::BankInParts => false,
-            LetterKind::InsuranceInParts => true,
-        }
+        matches!(self, LetterKind::InsuranceInParts)
     }
 }
 

@@ -11,7 +11,7 @@ mod opening;
 
 pub use opening::open;
 
-#[derive(Drop)]
+#[derive(Debug, Drop, PartialEq, Eq)]
 pub struct Book {
     figures: Figures,
     ghost dated: { figures.today ≤ 7304 },

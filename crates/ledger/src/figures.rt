@@ -2,7 +2,7 @@
 use letters::table::LetterTable;
 use rating::Grades;
 
-#[derive(Clone, Copy)]
+#[derive(Clone, Copy, Debug, PartialEq, Eq)]
 pub struct Figures {
     pub today: u16,
     // What the retailer's customers used in the last twelve months, in MWh.

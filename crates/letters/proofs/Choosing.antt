@@ -5,7 +5,7 @@ use Rattle.draw_order.specs.declared.LetterFacts.{LetterFacts}
 use Rattle.std.proofs.lemmas.Bool.{and_from, and_left, and_parts, both_ways, cases_Bool, cases_eq, cases_lt, cond_both, eq-eqb, eqb-true, not_from_false, not_from_true, or_cases, or_from, or_left, or_parts, or_right}
 use Rattle.std.proofs.lemmas.List.Folds.{list_any_at}
 use Rattle.std.specs.List.{list_any, position_or_len}
-use Rattle.letters.proofs.Rows.{every_row_at, every_row_from, no_row_from, only_place}
+use Rattle.letters.proofs.Rows.{all_at, all_from, no_row_from, only_place}
 use Rattle.letters.specs.Choosing.{FirstUsable, OnlyFirstUsable, facts, goes_first, usable}
 use Rattle.letters.specs.Letters.{booked, distinct_numbers, no_letter, numbered}
 use Rattle.letters.specs.declared.letter.Letter.{Letter}
@@ -146,7 +146,7 @@ module _ (before : Order) (one_first : ExactlyOneFirst before) (day : ℕ) (rows
   beaten_by first other = not (usable day other) || eqb other.number first.number || before (facts first) (facts other)
 
   test_passes : (place : ℕ) → FirstUsable before day rows place → goes_first before day rows (row place) ≡ true
-  test_passes place first = and_from _ _ first.is_usable (every_row_from (beaten_by (row place)) rows (λ other h. beaten other h (cases_Bool (usable day (row other))) (cases_eq other place)))
+  test_passes place first = and_from _ _ first.is_usable (all_from (beaten_by (row place)) rows (λ other h. beaten other h (cases_Bool (usable day (row other))) (cases_eq other place)))
     where
       beaten : (other : ℕ) → other < length rows → (usable day (row other) ≡ true) ⊎ (usable day (row other) ≡ false) → (other ≡ place) ⊎ (other ≡ place → ⊥) → beaten_by (row place) (row other) ≡ true
       beaten other h (inr not_usable) which = or_left _ _ (or_left _ _ (not_from_false _ not_usable))
@@ -156,7 +156,7 @@ module _ (before : Order) (one_first : ExactlyOneFirst before) (day : ℕ) (rows
   passes_alone : (place : ℕ) → FirstUsable before day rows place → (other : ℕ) → other < length rows → goes_first before day rows (row other) ≡ true → other ≡ place
   passes_alone place first other h passes =
       let parts = and_parts _ _ passes in
-      let beaten = every_row_at (beaten_by (row other)) rows place first.within parts.1 in
+      let beaten = all_at (beaten_by (row other)) rows place first.within parts.1 in
       same_place other place h first.within parts.0 first.is_usable
       (λ not_same. ⊎_elim
       (λ either. ⊎_elim

@@ -16,11 +16,11 @@ module _ (p : Letter → Bool) (rows : List Letter) where
   pub no_row_from : ((i : ℕ) → i < length rows → p (get_or rows i no_letter) ≡ false) → list_any p rows ≡ false
   no_row_from each = list_any_none p rows (All-from_get_or (λ row. p row ≡ false) rows no_letter each)
 
-  pub every_row_from : ((i : ℕ) → i < length rows → p (get_or rows i no_letter) ≡ true) → list_all p rows ≡ true
-  every_row_from each = list_all-from_AllPass p rows (All-from_get_or (λ row. p row ≡ true) rows no_letter each)
+  pub all_from : ((i : ℕ) → i < length rows → p (get_or rows i no_letter) ≡ true) → list_all p rows ≡ true
+  all_from each = list_all-from_AllPass p rows (All-from_get_or (λ row. p row ≡ true) rows no_letter each)
 
-  pub every_row_at : (i : ℕ) → i < length rows → list_all p rows ≡ true → p (get_or rows i no_letter) ≡ true
-  every_row_at i h all = All-get_or (λ row. p row ≡ true) rows i no_letter h (AllPass-from_list_all p rows all)
+  pub all_at : (i : ℕ) → i < length rows → list_all p rows ≡ true → p (get_or rows i no_letter) ≡ true
+  all_at i h all = All-get_or (λ row. p row ≡ true) rows i no_letter h (AllPass-from_list_all p rows all)
 
   -- a row that alone passes is the first that passes
   pub only_place : (i : ℕ) → i < length rows → p (get_or rows i no_letter) ≡ true → ((j : ℕ) → j < length rows → p (get_or rows j no_letter) ≡ true → j ≡ i) → i ≡ position_or_len p rows

@@ -12,13 +12,13 @@ mod days;
 pub const PLACES: usize = 24;
 
 // A place of the table.
-#[derive(Clone, Copy)]
+#[derive(Clone, Copy, Debug, PartialEq, Eq)]
 pub struct Place {
     index: usize,
     ghost within: { index < 24 },
 }
 
-#[derive(Clone, Copy)]
+#[derive(Clone, Copy, Debug, PartialEq, Eq)]
 pub struct LetterTable {
     rows: [Letter; PLACES],
 }

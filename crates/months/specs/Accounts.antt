@@ -1,6 +1,6 @@
 -- The account of one month.
 use Rattle.std.specs.Prelude.{ℕ, ◌+◌, Bool, true, ◌&&◌, ℤ, pos, negsuc, ◌-ℤ◌, Some, None, Option, int_le}
-use Rattle.std.specs.Option.{option_or, unwrap_or}
+use Rattle.std.specs.Option.{unwrap_or}
 use Rattle.months.specs.declared.account.MonthAccount.{MonthAccount}
 use Rattle.months.specs.declared.terms.BillKind.{BillKind}
 use Rattle.months.specs.declared.terms.BillKind.TheVariants.{Provisional, Formal, Fee as FeeBill}
@@ -17,7 +17,7 @@ no_account = account None None None 0 0
 
 -- The settlement due is the formal bill, else the provisional bill, else 0.
 abbrev pub settlement_due : MonthAccount → ℤ
-settlement_due m = unwrap_or (option_or m.formal m.provisional) (pos 0)
+settlement_due m = elim m.formal [ Some sum ↦ sum | None ↦ unwrap_or m.provisional (pos 0) ]
 
 -- The fee due is the fee bill, else 0.
 abbrev pub fee_due : MonthAccount → ℤ

@@ -8,8 +8,9 @@ ghost use Rattle.months.specs.Postings.{bill_conditions, bill_range, billed, mon
 
 use crate::account::MonthAccount;
 use crate::terms::{BillKind, BillTerms, PaymentKind, ReceiptTerms};
+use calendar::month::Month;
 use refusals::Refusal;
-use refusals::ranges::{is_month, is_sum};
+use refusals::ranges::is_sum;
 
 pub const MONTHS: usize = 36;
 
@@ -50,7 +51,10 @@ impl MonthTable {
         ensures value { result ≡ sum_by month_exposure (take months self.now.rows) }
         ensures small { list_all sound_account self.now.rows ≡ true → result ≤ 72_000_000_000_000 }
     {
-        exposure_of(&self.rows[..months.min(MONTHS)])
+        self.rows[..months.min(MONTHS)]
+            .iter()
+            .map(|row| u128::from(row.exposure()))
+            .sum()
     }
 
     // A bill takes the place of the earlier one of its kind.
@@ -116,14 +120,6 @@ impl MonthTable {
     }
 }
 
-// The exposure of some months.
-fn exposure_of(rows: &[MonthAccount]) -> u128
-    requires { length rows.now ≤ 36 }
-    ensures { result ≡ sum_by month_exposure rows.now }
-{
-    rows.iter().map(|row| u128::from(row.exposure())).sum()
-}
-
 // The kind of a bill, if every figure is in its range.
 #[tactic(auto, using(crate::proofs::Codes::no_bill), unfolding(crate::specs::Postings::bill_in_range))]
 fn read_bill(terms: BillTerms) -> Result<BillKind, Refusal>
@@ -131,7 +127,7 @@ fn read_bill(terms: BillTerms) -> Result<BillKind, Refusal>
 {
     let kind = BillKind::try_from(terms.code)?;
     let least = if kind == BillKind::Fee { 0 } else { -MOST_DUE };
-    if !is_month(terms.month) || !(least..=MOST_DUE).contains(&terms.sum) {
+    if Month::new(terms.month).is_none() || !(least..=MOST_DUE).contains(&terms.sum) {
         return Err(Refusal::OutOfRange);
     }
     Ok(kind)
@@ -143,7 +139,7 @@ fn read_receipt(terms: ReceiptTerms) -> Result<PaymentKind, Refusal>
     ensures { Checked (receipt_range terms) result (λ kind. payment_code kind ≡ terms.code) }
 {
     let kind = PaymentKind::try_from(terms.code)?;
-    if !is_month(terms.month) || !is_sum(terms.sum) {
+    if Month::new(terms.month).is_none() || !is_sum(terms.sum) {
         return Err(Refusal::OutOfRange);
     }
     Ok(kind)

@@ -25,13 +25,13 @@ reduce_larger n (m ∷ ns) = fold_larger n m ns
 
 module _ (g : Grades) where
   -- the highest coefficient of the rows of a table that fit
-  abbrev given : List TableRow → Option ℕ
-  given table = reduce max (map (λ (r : TableRow). r.coefficient) (filter (fits g) table))
+  abbrev most : List TableRow → Option ℕ
+  most table = reduce max (map (λ (r : TableRow). r.coefficient) (filter (fits g) table))
 
-  given_more : (r : TableRow) (table : List TableRow) → given (r ∷ table) ≡ cond (fits g r) (Some (larger r.coefficient (given table))) (given table)
+  given_more : (r : TableRow) (table : List TableRow) → most (r ∷ table) ≡ cond (fits g r) (Some (larger r.coefficient (most table))) (most table)
   given_more r table = by (fits g r)
     where
-      by : (b : Bool) → reduce max (map (λ (r : TableRow). r.coefficient) (cond b (r ∷ filter (fits g) table) (filter (fits g) table))) ≡ cond b (Some (larger r.coefficient (given table))) (given table)
+      by : (b : Bool) → reduce max (map (λ (r : TableRow). r.coefficient) (cond b (r ∷ filter (fits g) table) (filter (fits g) table))) ≡ cond b (Some (larger r.coefficient (most table))) (most table)
       by true = ap Some (reduce_larger r.coefficient _)
       by false = refl
 
@@ -55,7 +55,7 @@ module _ (g : Grades) where
         none_higher = All-cons (NotHigher row.row_taken) r table not_higher row.none_higher;
       }
 
-  -- what is given is what the highest row gives, and nothing is given only where no row fits
+  -- the most that rows give is what the highest row gives, and they give nothing only where none fits
   abbrev Known : List TableRow → Option ℕ → Type 0
   Known table o = MatchOption o (All Fails table) (λ c. HighestRow g table (pos c))
 
@@ -72,9 +72,9 @@ module _ (g : Grades) where
       rw same (taken r table does (λ k d h yes. omega (arith, ints, row.none_higher k d h yes, row.it_gives))))
       (cases_lt r.coefficient c)
 
-  known : (table : List TableRow) → Known table (given table)
+  known : (table : List TableRow) → Known table (most table)
   known [] = All-nil Fails
-  known (r ∷ table) = subst (Known (r ∷ table)) (sym (given_more r table)) (known_more r table (fits g r) refl (given table) (known table))
+  known (r ∷ table) = subst (Known (r ∷ table)) (sym (given_more r table)) (known_more r table (fits g r) refl (most table) (known table))
 
   rule_by : (o : Option ℕ) → Known rows o → GuangxiRule g (elim o [ None ↦ by_newest g.newest | Some c ↦ pos c ])
   rule_by None none = inr (none, refl)

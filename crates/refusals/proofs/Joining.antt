@@ -1,21 +1,17 @@
--- Conditions that are tried after others.
+-- Conditions that are tried after others: what the first list gives, or where it gives nothing the second.
 use Rattle.std.proofs.Common.{◌≡◌, ℕ, Bool, true, false, cond, List, [], ◌∷◌, ◌++◌, Some, None, Option, sym, refl, ◌∙◌, arith}
+use Rattle.std.specs.Option.{option_or}
 use Rattle.refusals.specs.Conditions.{Condition, first_given}
 
--- what the first list gives, or where it gives nothing the second
-abbrev pub or_else : {X : Type 0} → Option X → Option X → Option X
-or_else None second = second
-or_else (Some x) second = Some x
-
-pub joined : {X : Type 0} (first second : List (Condition X)) → first_given (first ++ second) ≡ or_else (first_given first) (first_given second)
+pub joined : {X : Type 0} (first second : List (Condition X)) → first_given (first ++ second) ≡ option_or (first_given first) (first_given second)
 joined [] second = refl
 joined (c ∷ cs) second = next (joined cs second) c.holds
   where
-    next : (rest : first_given (cs ++ second) ≡ or_else (first_given cs) (first_given second)) (b : Bool) → cond b (Some c.answer) (first_given (cs ++ second)) ≡ or_else (cond b (Some c.answer) (first_given cs)) (first_given second)
+    next : (rest : first_given (cs ++ second) ≡ option_or (first_given cs) (first_given second)) (b : Bool) → cond b (Some c.answer) (first_given (cs ++ second)) ≡ option_or (cond b (Some c.answer) (first_given cs)) (first_given second)
     next rest true = refl
     next rest false = rest
 
-none_before : {X : Type 0} (first second : Option X) → or_else first second ≡ None → first ≡ None
+none_before : {X : Type 0} (first second : Option X) → option_or first second ≡ None → first ≡ None
 none_before None second e = refl
 none_before (Some x) second e = e
 

@@ -1,18 +1,6 @@
 // Whether a figure is in its range.
 ghost use Rattle.std.specs.Prelude.{◌≡◌};
-ghost use Rattle.refusals.specs.Ranges.{is_day, is_month, is_number, is_sum};
-
-pub fn is_day(day: u16) -> bool
-    ensures { result ≡ is_day day }
-{
-    day <= 7304
-}
-
-pub fn is_month(month: u8) -> bool
-    ensures { result ≡ is_month month }
-{
-    month <= 239
-}
+ghost use Rattle.refusals.specs.Ranges.{is_number, is_sum};
 
 // The number of a letter or of a claim.
 pub fn is_number(number: u16) -> bool

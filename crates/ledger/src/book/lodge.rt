@@ -11,6 +11,7 @@ use crate::book::Book;
 use crate::outcome::Outcome;
 use crate::party::Party;
 use crate::terms::LetterTerms;
+use calendar::day::Day;
 use calendar::month::Month;
 use draw_order::{DrawOrder, LetterKind};
 use letters::letter::{Letter, Standing};
@@ -18,13 +19,13 @@ use letters::sums::LetterSums;
 use letters::table::Place;
 use rating::RatingPolicy;
 use refusals::Refusal;
-use refusals::ranges::{is_day, is_number, is_sum};
+use refusals::ranges::{is_number, is_sum};
 
 // No held sums may add up to more, in fen.
 const MOST_HELD: u128 = 3_000_000_000;
 
 // Terms whose figures are all in their ranges, and what they stand for.
-#[derive(Clone, Copy)]
+#[derive(Clone, Copy, Debug, PartialEq, Eq)]
 struct TermsInRange {
     terms: LetterTerms,
     kind: LetterKind,
@@ -32,12 +33,12 @@ struct TermsInRange {
     // The target month needs six months after it.
     sixth: Month,
     ghost of_kind: { kind ≡ kind_of terms.kind },
-    ghost of_target: { target.number ≡ terms.target_month },
-    ghost of_sixth: { sixth.number ≡ terms.target_month + 6 },
+    ghost of_target: { target ≡ terms.target_month },
+    ghost of_sixth: { sixth ≡ terms.target_month + 6 },
 }
 
 // A letter that may be lodged, and the place for it.
-#[derive(Clone, Copy)]
+#[derive(Clone, Copy, Debug, PartialEq, Eq)]
 struct NewLetter {
     place: Place,
     row: Letter,
@@ -67,7 +68,7 @@ impl Book {
             return Err(Refusal::NumberTaken);
         }
         let place = self.figures.letters.free_place().ok_or(Refusal::NoPlace)?;
-        if !self.days_fit(letter) {
+        if !self.days_fit(&letter) {
             return Err(Refusal::DaysDoNotFit);
         }
         if self.figures.letters.held() + u128::from(terms.sum) > MOST_HELD {
@@ -79,8 +80,8 @@ impl Book {
         })
     }
 
-    fn days_fit(&self, letter: TermsInRange) -> bool
-        ensures { result ≡ days_fit self.now.figures letter.terms }
+    fn days_fit(&self, letter: &TermsInRange) -> bool
+        ensures { result ≡ days_fit self.now.figures letter.now.terms }
     {
         let terms = letter.terms;
         self.figures.today <= terms.last_day
@@ -102,8 +103,9 @@ impl TryFrom<LetterTerms> for TermsInRange {
         let kind = LetterKind::try_from(terms.kind)?;
         let target = Month::new(terms.target_month).ok_or(Refusal::OutOfRange)?;
         let sixth = target.later(6).ok_or(Refusal::OutOfRange)?;
-        let days = is_day(terms.first_day) && is_day(terms.last_day);
-        if !is_number(terms.number) || !is_sum(terms.sum) || !days {
+        Day::new(terms.first_day).ok_or(Refusal::OutOfRange)?;
+        Day::new(terms.last_day).ok_or(Refusal::OutOfRange)?;
+        if !is_number(terms.number) || !is_sum(terms.sum) {
             return Err(Refusal::OutOfRange);
         }
         Ok(TermsInRange {
@@ -117,8 +119,8 @@ impl TryFrom<LetterTerms> for TermsInRange {
 
 impl TermsInRange {
     // The row of the new letter.
-    fn row(self) -> Letter
-        ensures { result ≡ new_letter self.terms }
+    fn row(&self) -> Letter
+        ensures { result ≡ new_letter self.now.terms }
     {
         LetterSums::lodge(self.terms.sum).written_to(Letter {
             number: self.terms.number,

@@ -47,7 +47,7 @@ pub fn open(book: &mut Book, party: u8, day: u16) -> u8
 }
 
 fn opening_day(party: u8, day: u16) -> Result<Day, Refusal>
-    ensures { Checked (opening_conditions party day) result (λ d. d.number ≡ day) }
+    ensures { Checked (opening_conditions party day) result (λ d. d ≡ day) }
 {
     Party::Centre.admit(party)?;
     Day::new(day).ok_or(Refusal::OutOfRange)

@@ -9,7 +9,7 @@ use crate::table::{LetterTable, Place};
 use draw_order::{DrawOrder, LetterFacts};
 
 // A usable letter, and where it stands.
-#[derive(Clone, Copy)]
+#[derive(Clone, Copy, Debug, PartialEq, Eq)]
 struct Candidate {
     index: usize,
     facts: LetterFacts,

@@ -4,7 +4,6 @@ ghost use Rattle.std.specs.List.{list_all};
 ghost use Rattle.letters.specs.Letters.{balanced};
 ghost use Rattle.letters.specs.Sums.{after_day};
 
-use crate::letter::Letter;
 use crate::sums::Unbalanced;
 use crate::table::LetterTable;
 
@@ -14,15 +13,9 @@ impl LetterTable {
     pub fn end_past(&mut self, day: u16) -> Result<(), Unbalanced>
         ensures { MatchResult result (λ _. self.new.rows ≡ map (after_day day) self.old.rows) (λ _. list_all balanced self.old.rows ≡ false) }
     {
-        end_past(&mut self.rows, day)
+        for row in self.rows.iter_mut() {
+            *row = row.after_day(day)?;
+        }
+        Ok(())
     }
-}
-
-fn end_past(rows: &mut [Letter], day: u16) -> Result<(), Unbalanced>
-    ensures { MatchResult result (λ _. rows.new ≡ map (after_day day) rows.old) (λ _. list_all balanced rows.old ≡ false) }
-{
-    for row in rows.iter_mut() {
-        *row = row.after_day(day)?;
-    }
-    Ok(())
 }

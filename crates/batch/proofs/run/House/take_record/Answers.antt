@@ -1,5 +1,6 @@
 use Rattle.std.proofs.Common.{sym, ap, ◌∙◌}
-use Rattle.refusals.proofs.Joining.{joined, or_else}
+use Rattle.refusals.proofs.Joining.{joined}
+use Rattle.std.specs.Option.{option_or}
 use Rattle.refusals.specs.Conditions.{first_given}
 use Rattle.std.proofs.lemmas.Result.{err_from_is_err_and}
 use Rattle.records.specs.Records.{record_faults, record_in}
@@ -14,6 +15,6 @@ returns-in_err-answer g c =
     let posted = c.in_err-answer.ensures in
     let p = err_from_is_err_and c.from_residual-in_err-answer.result c.from_residual-in_err-answer.ensures.1 in
     rw (p.1, p.2) (record {
-      fault = joined (record_faults bytes) turn ∙ ap (λ given. or_else given (first_given turn)) read.0 ∙ ap (λ r. first_given (turn_faults c.args.number c.args.book.now.figures r)) (sym read.1.0) ∙ posted.fault;
+      fault = joined (record_faults bytes) turn ∙ ap (λ given. option_or given (first_given turn)) read.0 ∙ ap (λ r. first_given (turn_faults c.args.number c.args.book.now.figures r)) (sym read.1.0) ∙ posted.fault;
       after = posted.after;
     })
