@@ -2,8 +2,8 @@
 ghost use Rattle.std.specs.Prelude.{◌≡◌, ℕ, ◌<◌, ◌≤◌, MatchOption};
 ghost use Rattle.calendar.specs.Calendar.{InMonth, month_of};
 
-use std::marker::Model;
 use crate::month::{LAST_MONTH, Month, start};
+use std::marker::Model;
 
 // The last day that has a number.
 const LAST_DAY: u16 = 7304;

@@ -2,8 +2,8 @@
 ghost use Rattle.std.specs.Prelude.{◌≡◌, ℕ, ◌+◌, ◌<◌, ◌≤◌, MatchOption};
 ghost use Rattle.calendar.specs.Calendar.{first_day_of, last_day_of};
 
-use std::marker::Model;
 use crate::day::Day;
+use std::marker::Model;
 
 // The last month that has a number.
 pub(crate) const LAST_MONTH: u8 = 239;

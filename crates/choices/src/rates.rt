@@ -1,5 +1,6 @@
 // What a policy says of a row of grades, and all rows of grades.
-ghost use Rattle.std.specs.Prelude.{◌≡◌, ◌%◌, true, false, MatchResult};
+ghost use Rattle.std.specs.Prelude.{◌≡◌, ◌%◌, true, false, MatchResult, not, [], ◌∷◌};
+ghost use Rattle.refusals.specs.Conditions.{Checked, ◌gives◌};
 ghost use Rattle.rating.specs.Grades.{rank};
 ghost use Rattle.rating.specs.Policies.{ceiling_fits};
 ghost use Rattle.refusals.specs.declared.Refusal.TheVariants.{OutOfRange};
@@ -58,7 +59,7 @@ fn grade_at(digit: u16) -> Grade
 pub(crate) type Stack = ArrearsLayer<CeilingLayer<GuangxiTable>>;
 
 pub(crate) fn stack(ceiling: i8) -> Result<Stack, Refusal>
-    ensures { MatchResult result (λ layer. (ceiling_fits ceiling ≡ true) × (layer.below.ceiling ≡ ceiling)) (λ refusal. (ceiling_fits ceiling ≡ false) × (refusal ≡ OutOfRange)) }
+    ensures { Checked (not (ceiling_fits ceiling) gives OutOfRange ∷ []) result (λ layer. layer.below.ceiling ≡ ceiling) }
 {
     let below = CeilingLayer::new(GuangxiTable, ceiling)?;
     Ok(ArrearsLayer { below })

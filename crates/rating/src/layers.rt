@@ -1,5 +1,6 @@
 // Policies that are laid over any other.
-ghost use Rattle.std.specs.Prelude.{◌≡◌, true, false, pos, ◌≤ℤ◌, MatchResult};
+ghost use Rattle.std.specs.Prelude.{◌≡◌, true, false, pos, ◌≤ℤ◌, MatchResult, not, [], ◌∷◌};
+ghost use Rattle.refusals.specs.Conditions.{Checked, ◌gives◌};
 ghost use Rattle.std.specs.Int.Signed.{le_z};
 ghost use Rattle.refusals.specs.declared.Refusal.TheVariants.{OutOfRange};
 ghost use Rattle.rating.specs.Policies.{SmallerOf, arrears_layer, ceiling_fits, ceiling_layer};
@@ -44,7 +45,7 @@ pub struct CeilingLayer<P> {
 impl<P: Drop> CeilingLayer<P> {
     // A ceiling outside 0 to 100 is refused.
     pub fn new(below: P, ceiling: i8) -> Result<CeilingLayer<P>, Refusal>
-        ensures { MatchResult result (λ layer. (ceiling_fits ceiling ≡ true) × (layer.below ≡ below) × (layer.ceiling ≡ ceiling)) (λ refusal. (ceiling_fits ceiling ≡ false) × (refusal ≡ OutOfRange)) }
+        ensures { Checked (not (ceiling_fits ceiling) gives OutOfRange ∷ []) result (λ layer. (layer.below ≡ below) × (layer.ceiling ≡ ceiling)) }
     {
         if !(0..=100).contains(&ceiling) {
             return Err(Refusal::OutOfRange);

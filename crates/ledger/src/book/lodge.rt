@@ -1,8 +1,8 @@
 // The posting of a new letter.
-ghost use Rattle.std.specs.Prelude.{◌≡◌, ◌+◌, ◌≤◌, true, false, MatchResult};
+ghost use Rattle.std.specs.Prelude.{◌≡◌, ◌+◌, ◌≤◌, true, false, MatchResult, not, [], ◌∷◌};
 ghost use Rattle.std.specs.List.{position_or_len};
 ghost use Rattle.letters.specs.Letters.{free, held_total};
-ghost use Rattle.refusals.specs.Conditions.{Checked};
+ghost use Rattle.refusals.specs.Conditions.{Checked, ◌gives◌};
 ghost use Rattle.refusals.specs.declared.Refusal.TheVariants.{OutOfRange};
 ghost use Rattle.ledger.specs.Lodge.{lodge_conditions, lodged, in_range, days_fit, kind_of, new_letter};
 ghost use Rattle.ledger.specs.Outcomes.{Settled};
@@ -97,7 +97,7 @@ impl Book {
 impl TryFrom<LetterTerms> for TermsInRange {
     type Error = Refusal;
 
-    ghost try_from_gives = { λ terms r. MatchResult r (λ letter. (in_range terms ≡ true) × (letter.terms ≡ terms)) (λ e. (in_range terms ≡ false) × (e ≡ OutOfRange)) };
+    ghost try_from_gives = { λ terms r. Checked (not (in_range terms) gives OutOfRange ∷ []) r (λ letter. letter.terms ≡ terms) };
 
     fn try_from(terms: LetterTerms) -> Result<TermsInRange, Refusal> {
         let kind = LetterKind::try_from(terms.kind)?;
