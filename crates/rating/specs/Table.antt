@@ -94,8 +94,15 @@ small_rows : All (λ (r : TableRow). r.coefficient ≤ 100) rows
 unfolding rows
 small_rows = All-from_recursion (λ (r : TableRow). r.coefficient ≤ 100) rows (omega arith)
 
-pub highest_small : (g : Grades) (c : ℕ) → highest g ≡ Some c → c ≤ 100
-highest_small g c is =
+-- what a row gives is the answer and small, and where no row fits the newest grade decides
+pub given : (g : Grades) (arrears : Bool) {c : ℕ} → highest g ≡ Some c → pos c ≡ guangxi g arrears
+given g arrears is = sym (ap (λ o. elim o [ None ↦ by_newest g.newest | Some c ↦ pos c ]) is)
+
+pub not_given : (g : Grades) (arrears : Bool) → highest g ≡ None → by_newest g.newest ≡ guangxi g arrears
+not_given g arrears is = sym (ap (λ o. elim o [ None ↦ by_newest g.newest | Some c ↦ pos c ]) is)
+
+pub given_small : (g : Grades) {c : ℕ} → highest g ≡ Some c → c ≤ 100
+given_small g {c} is =
     let row : HighestRow g rows (pos c) = subst (Known g rows) is (known g rows) in
     omega (arith, ints, row.it_gives, All-contains (λ (r : TableRow). r.coefficient ≤ 100) rows row.row_taken small_rows row.of_the_table)
 

@@ -54,7 +54,7 @@ impl RatingPolicy for GuangxiTable {
 
     ghost range = { λ policy. in_range };
 
-    #[tactic(auto, using(crate::specs::Table::highest_small))]
+    #[tactic(auto, using(crate::specs::Table::given_small))]
     fn rate(&self, grades: &Grades, _arrears: bool) -> i8
         ensures marked_or_not { (mark : Bool) → result ≡ guangxi grades.now mark }
         ensures rule { GuangxiRule grades.now result }
