@@ -5,7 +5,8 @@ use Rattle.draw_order.specs.declared.LetterFacts.{LetterFacts}
 use Rattle.std.proofs.lemmas.Bool.{and_from, and_left, and_parts, both_ways, cases_Bool, cases_eq, cases_lt, cond_both, eq-eqb, eqb-true, not_from_false, not_from_true, or_cases, or_from, or_left, or_parts, or_right}
 use Rattle.std.proofs.lemmas.List.Folds.{list_any_at}
 use Rattle.std.specs.List.{list_any, position_or_len}
-use Rattle.letters.proofs.Rows.{all_at, all_from, no_row_from, only_place}
+use Rattle.tables.proofs.Places.{every_row_from, no_row_from, only_place}
+use Rattle.letters.proofs.Rows.{all_at}
 use Rattle.letters.specs.Choosing.{FirstUsable, OnlyFirstUsable, facts, goes_first, usable}
 use Rattle.letters.specs.Letters.{booked, distinct_numbers, no_letter, numbered}
 use Rattle.letters.specs.declared.letter.Letter.{Letter}
@@ -105,7 +106,7 @@ module _ (before : Order) (day : ℕ) (rows : List Letter) where
 
   module _ (i : ℕ) (end : i ≡ length rows) where
     pub some_found : (first : Option Candidate) → Leads i first → MatchOption first (list_any (usable day) rows ≡ false) (λ c. (c.index < length rows) × (usable day (at c.index) ≡ true))
-    some_found None none = no_row_from (usable day) rows (λ other h. none other (omega (arith, end)))
+    some_found None none = no_row_from (usable day) no_letter rows (λ other h. none other (omega (arith, end)))
     some_found (Some c) (is, lead) = (omega (arith, end, lead.in_front), lead.is_usable)
 
     pub first_found : (first : Option Candidate) → Leads i first → distinct_numbers rows ≡ true → IfSome first (λ c. FirstUsable before day rows c.index)
@@ -146,7 +147,7 @@ module _ (before : Order) (one_first : ExactlyOneFirst before) (day : ℕ) (rows
   beaten_by first other = not (usable day other) || eqb other.number first.number || before (facts first) (facts other)
 
   test_passes : (place : ℕ) → FirstUsable before day rows place → goes_first before day rows (row place) ≡ true
-  test_passes place first = and_from _ _ first.is_usable (all_from (beaten_by (row place)) rows (λ other h. beaten other h (cases_Bool (usable day (row other))) (cases_eq other place)))
+  test_passes place first = and_from _ _ first.is_usable (every_row_from (beaten_by (row place)) no_letter rows (λ other h. beaten other h (cases_Bool (usable day (row other))) (cases_eq other place)))
     where
       beaten : (other : ℕ) → other < length rows → (usable day (row other) ≡ true) ⊎ (usable day (row other) ≡ false) → (other ≡ place) ⊎ (other ≡ place → ⊥) → beaten_by (row place) (row other) ≡ true
       beaten other h (inr not_usable) which = or_left _ _ (or_left _ _ (not_from_false _ not_usable))
@@ -170,7 +171,7 @@ module _ (before : Order) (one_first : ExactlyOneFirst before) (day : ℕ) (rows
   pub found_first : (place : ℕ) → FirstUsable before day rows place → (list_any (goes_first before day rows) rows ≡ true) × (place ≡ position_or_len (goes_first before day rows) rows)
   found_first place first = (
     list_any_at (goes_first before day rows) rows place no_letter first.within (test_passes place first),
-    only_place (goes_first before day rows) rows place first.within (test_passes place first) (passes_alone place first),
+    only_place (goes_first before day rows) no_letter rows place first.within (test_passes place first) (passes_alone place first),
   )
 
 -- where none is usable none goes first

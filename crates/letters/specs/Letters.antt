@@ -1,5 +1,5 @@
 -- The rows of the table of letters, and what the rules read off them.
-use Rattle.std.specs.Prelude.{◌≡◌, ℕ, ◌+◌, Bool, true, false, not, ◌&&◌, ◌||◌, List, [], ◌∷◌, filter, sum_by, Option, MatchOption, ◌==◌, nat_le, slice_index_or}
+use Rattle.std.specs.Prelude.{ℕ, ◌+◌, Bool, true, false, not, ◌&&◌, ◌||◌, List, [], ◌∷◌, filter, sum_by, ◌==◌, nat_le, slice_index_or}
 use Rattle.std.specs.List.{list_any, position_or_len}
 use Rattle.draw_order.specs.declared.LetterKind.TheVariants.{BankSingle}
 use Rattle.letters.specs.declared.letter.Letter.{Letter}
@@ -43,10 +43,6 @@ balanced row = row.lodged == row.drawn + row.returned + row.lapsed + row.held
 -- What holds of every row: it is in balance, and a free row holds nothing.
 abbrev pub sound_row : Letter → Bool
 sound_row row = balanced row && (booked row || row.held == 0)
-
--- What a search of the rows answers: the place of the first row that passes a test, nothing where none does.
-abbrev pub FindsFirst : {Place : Type 0} → (Letter → Bool) → List Letter → (Place → ℕ) → Option Place → Type 0
-FindsFirst passes rows index found = MatchOption found (list_any passes rows ≡ false) (λ place. (list_any passes rows ≡ true) × (index place ≡ position_or_len passes rows))
 
 -- The row has the letter with this number.
 abbrev pub numbered : ℕ → Letter → Bool

@@ -1,5 +1,5 @@
 // A row of the table of letters. Rows are plain figures: what always holds of them is stated where the table stands.
-ghost use Rattle.std.specs.Prelude.{◌≡◌};
+ghost use Rattle.std.specs.Prelude.{◌≡◌, if◌then◌else◌};
 ghost use Rattle.letters.specs.Choosing.{facts, usable};
 ghost use Rattle.letters.specs.Letters.{booked, followed_by, includes, original_in, original_out};
 
@@ -57,6 +57,13 @@ impl Letter {
         ensures { result ≡ includes day self.now }
     {
         self.first_day <= day && day <= self.last_day
+    }
+
+    // What the letter holds if its days include a day, and else nothing.
+    pub(crate) fn held_on(&self, day: u16) -> u32
+        ensures { result ≡ (if includes day self.now then self.now.held else 0) }
+    {
+        if self.includes(day) { self.held } else { 0 }
     }
 
     // Whether a letter that starts on this day may follow the row's letter.

@@ -2,7 +2,8 @@
 ghost use Rattle.std.specs.Prelude.{◌≡◌, ◌<◌, true, false, MatchOption, replicate, slice_index_or, slice_set};
 ghost use Rattle.std.specs.Fn.{FnReturnsAt};
 ghost use Rattle.std.specs.List.{AllWithin, HoldsAt, list_any};
-ghost use Rattle.letters.specs.Letters.{FindsFirst, numbered, followed_by, free, held_total, held_on, starts_in_time, no_letter};
+ghost use Rattle.tables.specs.Rows.{FindsFirst};
+ghost use Rattle.letters.specs.Letters.{numbered, followed_by, free, held_total, held_on, starts_in_time, no_letter};
 
 use crate::letter::Letter;
 
@@ -100,8 +101,7 @@ impl LetterTable {
     {
         self.rows
             .iter()
-            .filter(|row| row.includes(day))
-            .map(|row| u128::from(row.held))
+            .map(|row| u128::from(row.held_on(day)))
             .sum()
     }
 }

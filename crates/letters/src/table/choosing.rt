@@ -2,7 +2,8 @@
 ghost use Rattle.std.specs.Prelude.{◌≡◌, ◌<◌, true, false, length, IfSome, if◌then◌else◌, Some, None, MatchOption, slice_index_or};
 ghost use Rattle.std.specs.List.{list_any};
 ghost use Rattle.letters.specs.Choosing.{FirstUsable, OnlyFirstUsable, goes_first, usable};
-ghost use Rattle.letters.specs.Letters.{FindsFirst, distinct_numbers, no_letter};
+ghost use Rattle.tables.specs.Rows.{FindsFirst};
+ghost use Rattle.letters.specs.Letters.{distinct_numbers, no_letter};
 
 use crate::letter::Letter;
 use crate::table::{LetterTable, Place};

@@ -8,8 +8,8 @@ use crate::sums::Unbalanced;
 use crate::table::LetterTable;
 
 impl LetterTable {
-    // Ends the letters that are past their last day when this day has come and whose originals are in, up to the first row
-    // that is out of balance.
+    // Ends the letters that are past their last day when this day has come and whose originals are in, up to the first of
+    // them whose row is out of balance.
     pub fn end_past(&mut self, day: u16) -> Result<(), Unbalanced>
         ensures { MatchResult result (λ _. self.new.rows ≡ map (after_day day) self.old.rows) (λ _. list_all balanced self.old.rows ≡ false) }
     {
