@@ -9,14 +9,11 @@ negated : (n : ℕ) → n ≤ 2 ^ 42 → mag (neg_ℤ (pos n)) ≤ 2 ^ 42
 negated zero h = omega arith
 negated (suc n) h = omega arith
 
-size : (n : ℕ) (c : ℤ) → n < 2 ^ 35 → SFits w8 c → mag (pos n *ℤ c) ≤ 2 ^ 42
-size n (pos k) h f = mul-le n k (2 ^ 35) (2 ^ 7) (omega arith) (omega (arith, f.sfits))
-size n (negsuc k) h f =
+pub small : (n : ℕ) (c : ℤ) → n < 2 ^ 35 → SFits w8 c → mag (pos n *ℤ c) ≤ 2 ^ 42
+small n (pos k) h f = mul-le n k (2 ^ 35) (2 ^ 7) (omega arith) (omega (arith, f.sfits))
+small n (negsuc k) h f =
     subst (λ z. mag z ≤ 2 ^ 42) (sym (pos-*ℤ-negsuc n k)) (negated (n * suc k) (mul-le n (suc k) (2 ^ 35) (2 ^ 7) (omega arith) (omega (arith, f.sfits))))
 
-by_size : (z : ℤ) (k : ℕ) → mag z ≤ k → (negsuc k ≤ℤ z) × (z ≤ℤ pos k)
-by_size (pos n) k h = omega (arith, ints)
-by_size (negsuc n) k h = omega (arith, ints)
-
-pub small : (n : ℕ) (c : ℤ) → n < 2 ^ 35 → SFits w8 c → (negsuc (2 ^ 42) ≤ℤ (pos n *ℤ c)) × ((pos n *ℤ c) ≤ℤ pos (2 ^ 42))
-small n c h f = by_size (pos n *ℤ c) (2 ^ 42) (size n c h f)
+pub by_mag : (z : ℤ) (k : ℕ) → mag z ≤ k → (negsuc k ≤ℤ z) × (z ≤ℤ pos k)
+by_mag (pos n) k h = omega (arith, ints)
+by_mag (negsuc n) k h = omega (arith, ints)

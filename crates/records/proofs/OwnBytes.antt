@@ -10,7 +10,7 @@ use Rattle.records.specs.declared.field.FieldName.TheVariants.{Party, Number, Co
 
 module _ (n : ℕ) (xs ys : List ℕ) (same : take n xs ≡ take n ys) where
   -- bytes that start alike hold the same number wherever it is read within what they share
-  number_alike : (k width : ℕ) → k + width ≤ n → big_endian width (drop k xs) ≡ big_endian width (drop k ys)
+  pub number_alike : (k width : ℕ) → k + width ≤ n → big_endian width (drop k xs) ≡ big_endian width (drop k ys)
   number_alike k width fits = cc (drop-take k width xs, drop-take k width ys, take-take (k + width) n xs fits, take-take (k + width) n ys fits)
 
   -- a value of so many bytes, if it stands, in what is left behind the map and the kind
@@ -18,10 +18,10 @@ module _ (n : ℕ) (xs ys : List ℕ) (same : take n xs ≡ take n ys) where
   value_alike true k width fits = simp drop-drop (number_alike (3 + k) width fits)
   value_alike false k width fits = refl
 
-  field_alike : (map : ℕ) (field : FieldName) → 3 + ahead map field + field_length map field ≤ n → field_value map field (drop 1 (drop 2 xs)) ≡ field_value map field (drop 1 (drop 2 ys))
+  pub field_alike : (map : ℕ) (field : FieldName) → 3 + ahead map field + field_length map field ≤ n → field_value map field (drop 1 (drop 2 xs)) ≡ field_value map field (drop 1 (drop 2 ys))
   field_alike map field = value_alike (stands map field) (ahead map field) (width_of field)
 
-  fields_alike : (map : ℕ) → 3 + fields_length map ≤ n → fields_in map (drop 1 (drop 2 xs)) ≡ fields_in map (drop 1 (drop 2 ys))
+  pub fields_alike : (map : ℕ) → 3 + fields_length map ≤ n → fields_in map (drop 1 (drop 2 xs)) ≡ fields_in map (drop 1 (drop 2 ys))
   unfolding fields_length
   fields_alike map fits = λ i. record {
     party = field_alike map Party (omega arith) i;
