@@ -14,6 +14,10 @@ chosen_number before day rows =
     let first = goes_first before day rows in
     cond (list_any first rows) (Some (slice_index_or rows (position_or_len first rows) no_letter).number) None
 
+-- The number that is shown: that of the letter that goes first, 0 where none does.
+abbrev pub shown_number : Order → ℕ → List Letter → ℕ
+shown_number before day rows = elim (chosen_number before day rows) [ None ↦ 0 | Some number ↦ number ]
+
 -- The row of a letter as it was lodged.
 abbrev pub row_in : ℕ → LetterKind → ℕ → ℕ → ℕ → Letter
 row_in number kind first last held =

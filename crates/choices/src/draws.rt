@@ -1,7 +1,7 @@
 // A table of letters, and which of them an order chooses.
 ghost use Rattle.std.specs.Prelude.{◌≡◌, true, cond};
 ghost use Rattle.letters.specs.Letters.{distinct_numbers};
-ghost use Rattle.choices.specs.Draws.{chosen_number, row_in};
+ghost use Rattle.choices.specs.Draws.{chosen_number, row_in, shown_number};
 
 use draw_order::{DrawOrder, LetterKind};
 use letters::letter::{Letter, Standing};
@@ -13,6 +13,13 @@ pub(crate) fn first_number<O: DrawOrder>(table: &LetterTable, day: u16, order: &
 {
     let place = table.choose(day, order)?;
     Some(table.row(place).number)
+}
+
+// The number that is shown for a day: 0 where no letter is usable.
+pub(crate) fn shown_number<O: DrawOrder>(table: &LetterTable, day: u16, order: &O) -> u16
+    ensures { distinct_numbers table.now.rows ≡ true → result ≡ shown_number (O.before order.now) day table.now.rows }
+{
+    first_number(table, day, order).unwrap_or(0)
 }
 
 fn lodged(number: u16, kind: LetterKind, first_day: u16, last_day: u16, held: u32) -> Letter

@@ -6,7 +6,7 @@ mod rates;
 
 use draw_order::EarliestLastDay;
 use draw_order::orders::{InsuranceFirst, SmallestHeld};
-use draws::{first_number, letters};
+use draws::{letters, shown_number};
 use letters::table::LetterTable;
 use rates::{ROWS, Stack, grades_at, rate_both, stack};
 use rating::Grades;
@@ -57,12 +57,11 @@ fn print_draws(rt: HostRuntime) -> io::Result<()> {
     let insured_by_sum = InsuranceFirst {
         below: SmallestHeld,
     };
-    // A day on which no letter is usable shows 0.
     for day in 0..32 {
-        let by_day = first_number(&table, day, &EarliestLastDay).unwrap_or(0);
-        let by_sum = first_number(&table, day, &SmallestHeld).unwrap_or(0);
-        let first = first_number(&table, day, &insured_by_day).unwrap_or(0);
-        let least = first_number(&table, day, &insured_by_sum).unwrap_or(0);
+        let by_day = shown_number(&table, day, &EarliestLastDay);
+        let by_sum = shown_number(&table, day, &SmallestHeld);
+        let first = shown_number(&table, day, &insured_by_day);
+        let least = shown_number(&table, day, &insured_by_sum);
         println!(rt; "day {day}: {by_day} {by_sum}, insurance first {first} {least}")?;
     }
     Ok(())
