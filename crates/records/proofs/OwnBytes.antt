@@ -9,9 +9,12 @@ use Rattle.records.specs.declared.field.FieldName.{FieldName}
 use Rattle.records.specs.declared.field.FieldName.TheVariants.{Party, Number, Code, Sum, Day, LastDay, Month}
 
 module _ (n : ℕ) (xs ys : List ℕ) (same : take n xs ≡ take n ys) where
-  -- bytes that start alike hold the same number wherever it is read within what they share
+  -- bytes that start alike are alike wherever they are read within what they share
+  pub alike : (k width : ℕ) → k + width ≤ n → take width (drop k xs) ≡ take width (drop k ys)
+  alike k width fits = cc (drop-take k width xs, drop-take k width ys, take-take (k + width) n xs fits, take-take (k + width) n ys fits)
+
   pub number_alike : (k width : ℕ) → k + width ≤ n → big_endian width (drop k xs) ≡ big_endian width (drop k ys)
-  number_alike k width fits = cc (drop-take k width xs, drop-take k width ys, take-take (k + width) n xs fits, take-take (k + width) n ys fits)
+  number_alike k width fits = cc (alike k width fits)
 
   -- a value of so many bytes, if it stands, in what is left behind the map and the kind
   value_alike : (stands : Bool) (k width : ℕ) → 3 + k + cond stands width 0 ≤ n → cond stands (big_endian width (drop k (drop 1 (drop 2 xs)))) 0 ≡ cond stands (big_endian width (drop k (drop 1 (drop 2 ys)))) 0
