@@ -1,6 +1,7 @@
 -- Which letter an order chooses.
 use Rattle.std.specs.Prelude.{ℕ, cond, List, Some, None, Option, slice_index_or}
 use Rattle.std.specs.List.{list_any, position_or_len}
+use Rattle.std.specs.Option.{unwrap_or}
 use Rattle.draw_order.specs.Orders.{Order}
 use Rattle.draw_order.specs.declared.LetterKind.{LetterKind}
 use Rattle.letters.specs.Choosing.{goes_first}
@@ -16,7 +17,7 @@ chosen_number before day rows =
 
 -- The number that is shown: that of the letter that goes first, 0 where none does.
 abbrev pub shown_number : Order → ℕ → List Letter → ℕ
-shown_number before day rows = elim (chosen_number before day rows) [ None ↦ 0 | Some number ↦ number ]
+shown_number before day rows = unwrap_or (chosen_number before day rows) 0
 
 -- The row of a letter as it was lodged.
 abbrev pub row_in : ℕ → LetterKind → ℕ → ℕ → ℕ → Letter

@@ -26,10 +26,10 @@ module _ {Row : Type 0} (passes : Row → Bool) (d : Row) where
       (λ past. ap passes (get_or_past rows (position_or_len passes rows) d past) ∙ default)
       (cases_lt (position_or_len passes rows) (length rows))
 
-module _ {Row : Type 0} (passes : Row → Bool) where
-  -- what a search by places finds
-  pub finds_first : (rows : List Row) (found : Option ℕ) → IfSome found (λ i. i < length rows) → MatchOption found (AllWithin (λ row. passes row ≡ false) rows 0 (length rows)) (λ i. HoldsAt (λ row. passes row ≡ true) rows i × AllWithin (λ row. passes row ≡ false) rows 0 i) → FindsFirst passes rows (λ i. i) found
+module _ {Row Place : Type 0} (passes : Row → Bool) (index : Place → ℕ) where
+  -- what a search finds that looks at place after place
+  pub finds_first : (rows : List Row) (found : Option Place) → IfSome found (λ place. index place < length rows) → MatchOption found (AllWithin (λ row. passes row ≡ false) rows 0 (length rows)) (λ place. HoldsAt (λ row. passes row ≡ true) rows (index place) × AllWithin (λ row. passes row ≡ false) rows 0 (index place)) → FindsFirst passes rows index found
   finds_first rows None within none = list_any_none passes rows (All-from_all_within (λ row. passes row ≡ false) rows none)
-  finds_first [] (Some i) within at = absurd (omega (arith, within))
-  finds_first (row ∷ rows) (Some i) within (here, before) =
-      (list_any_at passes (row ∷ rows) i row within (here row), sym (position_or_len_is passes (row ∷ rows) i row (omega (arith, within)) (λ k h. before k row (omega arith) h) (λ _. here row)))
+  finds_first [] (Some place) within at = absurd (omega (arith, within))
+  finds_first (row ∷ rows) (Some place) within (here, before) =
+      (list_any_at passes (row ∷ rows) (index place) row within (here row), sym (position_or_len_is passes (row ∷ rows) (index place) row (omega (arith, within)) (λ k h. before k row (omega arith) h) (λ _. here row)))
